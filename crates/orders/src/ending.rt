@@ -1,0 +1,13 @@
+// How the reading of a file ended.
+use rules::Refusal;
+use rules::RefusalDebug;
+use rules::RefusalPartialEq;
+use rules::RefusalEq;
+
+#[derive(Clone, Copy, PartialEq, Eq, Debug)]
+pub enum Ending {
+    // Nothing is left.
+    End,
+    // The order at the place is refused.
+    Damaged(Refusal),
+}

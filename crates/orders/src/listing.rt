@@ -1,0 +1,38 @@
+// A whole file, read to its end.
+ghost use mathlib.Core.Path.{_≡_};
+ghost use Rattle.std.specs.Vec.{made};
+ghost use Rattle.orders.specs.File.{Reads, cutOf};
+use crate::ending::Ending;
+use crate::order::Order;
+use crate::reader::Reader;
+use std::alloc::AllocError;
+use std::alloc::Global;
+
+// The orders in the file's own order, the place where reading ended, and how.
+#[derive(Drop)]
+pub struct Listing<'a> {
+    pub orders: Vec<Order<'a>>,
+    pub place: usize,
+    pub ending: Ending,
+}
+
+pub fn read_orders<'a>(heap: Global, input: &'a [u8]) -> Result<Listing<'a>, AllocError>
+    ensures { λ r. ⌜ made r (λ listing. Reads (now (input .entry)) (cutOf listing)) ⌝ }
+{
+    let mut orders = Vec::new(heap);
+    let mut reader = Reader::new(input);
+    let ending = loop {
+        match reader.next_order() {
+            Some(outcome) => match outcome {
+                Ok(order) => orders.push(order)?,
+                Err(refusal) => break Ending::Damaged(refusal),
+            },
+            None => break Ending::End,
+        }
+    };
+    Ok(Listing {
+        orders,
+        place: reader.offset(),
+        ending,
+    })
+}

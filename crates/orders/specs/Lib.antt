@@ -1,4 +1,2 @@
 pub mod Layout
 pub mod Orders
-pub mod Reading
-pub mod File

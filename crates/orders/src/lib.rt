@@ -1,18 +1,15 @@
-// Order files: a walk along the caller's bytes, without a copy.
-mod ending;
-mod listing;
+// Orders as they lie in the bytes of an order file.
+mod add_order;
+mod change_order;
+mod drop_order;
+mod look_up_order;
 mod number;
 mod order;
 mod part;
-mod reader;
 
-pub use ending::Ending;
-pub use listing::Listing;
-pub use listing::read_orders;
-pub use order::AddOrder;
-pub use order::ChangeOrder;
-pub use order::DropOrder;
-pub use order::LookUpOrder;
+pub use add_order::AddOrder;
+pub use change_order::ChangeOrder;
+pub use drop_order::DropOrder;
+pub use look_up_order::LookUpOrder;
 pub use order::Order;
 pub use part::Part;
-pub use reader::Reader;

@@ -1,21 +1,11 @@
 // One order of a file, by its letter. Each still holds its own part of the input.
 ghost use mathlib.Core.Path.{_≡_};
-ghost use Rattle.orders.specs.Layout.{numberIn, priorityIn, newActionIn, otherActionIn, wordAIn, wordBIn, subjectIn};
 ghost use Rattle.orders.specs.Orders.{letterOf, placeOf, bytesOf};
-use crate::number::big_endian;
+use crate::add_order::AddOrder;
+use crate::change_order::ChangeOrder;
+use crate::drop_order::DropOrder;
+use crate::look_up_order::LookUpOrder;
 use crate::part::Part;
-
-#[derive(Clone, Copy)]
-pub struct AddOrder<'a>(pub(crate) Part<'a, 27>);
-
-#[derive(Clone, Copy)]
-pub struct DropOrder<'a>(pub(crate) Part<'a, 5>);
-
-#[derive(Clone, Copy)]
-pub struct ChangeOrder<'a>(pub(crate) Part<'a, 9>);
-
-#[derive(Clone, Copy)]
-pub struct LookUpOrder<'a>(pub(crate) Part<'a, 11>);
 
 #[derive(Clone, Copy)]
 pub enum Order<'a> {
@@ -61,82 +51,11 @@ impl<'a> Order<'a> {
         ensures { λ r. ⌜ now r ≡ bytesOf (now (self .entry)) ⌝ }
     {
         match self {
-            Order::Add(order) => order.0.bytes(),
-            Order::Drop(order) => order.0.bytes(),
-            Order::Change(order) => order.0.bytes(),
-            Order::LookUp(order) => order.0.bytes(),
-            Order::Step(part) | Order::Complete(part) | Order::Withdraw(part) => part.bytes(),
+            Order::Add(order) => order.0.shown(),
+            Order::Drop(order) => order.0.shown(),
+            Order::Change(order) => order.0.shown(),
+            Order::LookUp(order) => order.0.shown(),
+            Order::Step(part) | Order::Complete(part) | Order::Withdraw(part) => part.shown(),
         }
-    }
-}
-
-impl AddOrder<'_> {
-    pub fn number(&self) -> u16
-        ensures { λ r. ⌜ r ≡ numberIn (now (now (self .entry) .0 .bytes)) ⌝ }
-    {
-        let bytes = self.0.bytes;
-        big_endian(&bytes[3..5]) as u16
-    }
-
-    pub fn priority(&self) -> u16
-        ensures { λ r. ⌜ r ≡ priorityIn (now (now (self .entry) .0 .bytes)) ⌝ }
-    {
-        let bytes = self.0.bytes;
-        big_endian(&bytes[5..7]) as u16
-    }
-
-    pub fn action(&self) -> u32
-        ensures { λ r. ⌜ r ≡ newActionIn (now (now (self .entry) .0 .bytes)) ⌝ }
-    {
-        let bytes = self.0.bytes;
-        big_endian(&bytes[7..11]) as u32
-    }
-
-    pub fn word_a(&self) -> u64
-        ensures { λ r. ⌜ r ≡ wordAIn (now (now (self .entry) .0 .bytes)) ⌝ }
-    {
-        let bytes = self.0.bytes;
-        big_endian(&bytes[11..19])
-    }
-
-    pub fn word_b(&self) -> u64
-        ensures { λ r. ⌜ r ≡ wordBIn (now (now (self .entry) .0 .bytes)) ⌝ }
-    {
-        let bytes = self.0.bytes;
-        big_endian(&bytes[19..27])
-    }
-}
-
-impl DropOrder<'_> {
-    pub fn number(&self) -> u16
-        ensures { λ r. ⌜ r ≡ numberIn (now (now (self .entry) .0 .bytes)) ⌝ }
-    {
-        let bytes = self.0.bytes;
-        big_endian(&bytes[3..5]) as u16
-    }
-}
-
-impl ChangeOrder<'_> {
-    pub fn number(&self) -> u16
-        ensures { λ r. ⌜ r ≡ numberIn (now (now (self .entry) .0 .bytes)) ⌝ }
-    {
-        let bytes = self.0.bytes;
-        big_endian(&bytes[3..5]) as u16
-    }
-
-    pub fn action(&self) -> u32
-        ensures { λ r. ⌜ r ≡ otherActionIn (now (now (self .entry) .0 .bytes)) ⌝ }
-    {
-        let bytes = self.0.bytes;
-        big_endian(&bytes[5..9]) as u32
-    }
-}
-
-impl LookUpOrder<'_> {
-    pub fn subject(&self) -> u64
-        ensures { λ r. ⌜ r ≡ subjectIn (now (now (self .entry) .0 .bytes)) ⌝ }
-    {
-        let bytes = self.0.bytes;
-        big_endian(&bytes[3..11])
     }
 }

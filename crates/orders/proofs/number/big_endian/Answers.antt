@@ -10,14 +10,11 @@ use Rattle.std.proofs.shelf.Lists.{take-all}
 use Rattle.orders.specs.Layout.{bigEndian}
 use Rattle.orders.proofs.number.big_endian.Needs as need
 
-room : (i : ℕ) → i < 8 → 256 ^ i ≤ 256 ^ 7
+room : (i : ℕ) → i < 8 → 256 ^ i ≤ 2 ^ 56
 room i h = let few : i ≤ 7 = omega arith in pow-le-pow-right (omega arith) few
 
-pub mul-value : need.mul-value
-mul-value c = omega (arith, room (c .loop-byte .byte-index) (omega arith))
-
-pub add-value : need.add-value
-add-value c = omega (arith, room (c .loop-byte .byte-index) (omega arith))
+pub one-byte-more-value-requires : need.one-byte-more-value-requires
+one-byte-more-value-requires c κs = omega (arith, room (c .loop-byte .byte-index) (omega arith))
 
 pub loop-byte-again : need.loop-byte-again
 loop-byte-again c =

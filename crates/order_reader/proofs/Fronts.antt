@@ -1,26 +1,26 @@
 -- What stands at the front of a list of bytes, read by places. Assumes nothing.
 use mathlib.Core.Path.{_≡_, ap, subst, _∙_}
-use mathlib.Core.Bool.{Bool, cond, _&&_}
+use mathlib.Core.Bool.{Bool, true, cond, _&&_}
 use mathlib.Core.List.{List, [], _∷_}
 use Prim.Native.Nat.{ℕ, _+_, _-_, _≤_}
 use native.Mathlib.Omega.{arith}
 use lib.Dec.{eqb, leb}
 use lib.ListN.{length, getD}
-use Rattle.std.proofs.shelf.Tests.{le-leb, leb-true, cond-true, cond-both, eq-eqb, and-from}
+use Rattle.std.proofs.shelf.Tests.{le-leb, leb-true, cond-true, cond-both}
 use Rattle.std.proofs.shelf.Lists.{nil-from-length}
 use Rattle.rules.specs.declared.refusal.Refusal.the-variants.{CutShort}
 use Rattle.orders.specs.Layout.{Front, front, end, whole, damaged, withBody, lettered}
 
 pub front-none : (left : List ℕ) → length left ≡ 0 → front left ≡ end
 front-none left e = ap front (nil-from-length left e)
 
-pub front-marked : (left : List ℕ) → 3 ≤ length left → getD left 0 0 ≡ 0x4B → getD left 1 0 ≡ 0x54 → front left ≡ lettered (getD left 2 0) (length left - 3)
-front-marked [] h first second = absurd (omega arith)
-front-marked (a ∷ []) h first second = absurd (omega arith)
-front-marked (a ∷ b ∷ []) h first second = absurd (omega arith)
-front-marked (a ∷ b ∷ letter ∷ body) h first second =
+pub front-marked : (left : List ℕ) → 3 ≤ length left → (eqb (getD left 0 0) 0x4B && eqb (getD left 1 0) 0x54) ≡ true → front left ≡ lettered (getD left 2 0) (length left - 3)
+front-marked [] h mark = absurd (omega arith)
+front-marked (a ∷ []) h mark = absurd (omega arith)
+front-marked (a ∷ b ∷ []) h mark = absurd (omega arith)
+front-marked (a ∷ b ∷ letter ∷ body) h mark =
     let rest : length body ≡ length (a ∷ b ∷ letter ∷ body) - 3 = omega arith in
-    cond-true (eqb a 0x4B && eqb b 0x54) _ _ (and-from _ _ (eq-eqb a 0x4B first) (eq-eqb b 0x54 second)) ∙ ap (lettered letter) rest
+    cond-true (eqb a 0x4B && eqb b 0x54) _ _ mark ∙ ap (lettered letter) rest
 
 pub whole-body : (body left : ℕ) → body ≤ left → withBody body left ≡ whole (3 + body)
 whole-body body left h = cond-true (leb body left) _ _ (le-leb body left h)

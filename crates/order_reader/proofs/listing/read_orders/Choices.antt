@@ -3,9 +3,9 @@ use mathlib.Core.List.{map}
 use Prim.Native.Nat.{_-_}
 use lib.ListN.{length}
 use Rattle.std.specs.Of.Vec.{vec-items}
 use Rattle.orders.specs.Orders.{entryOf}
-use Rattle.orders.proofs.Files.{Sofar}
-use Rattle.orders.proofs.listing.read_orders.Given as given
+use Rattle.order_reader.proofs.Files.{Sofar}
+use Rattle.order_reader.proofs.listing.read_orders.Given as given
 
 abbrev pub Inv-loop-outcome : given.InvT-loop-outcome
 Inv-loop-outcome l = (l .reader .input .now ≡ l .input) × Sofar (l .input) (map entryOf (vec-items (l .orders))) (l .reader .offset)

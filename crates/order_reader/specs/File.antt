@@ -5,12 +5,12 @@ use Prim.Native.Nat.{ℕ, zero, suc, _+_}
 use lib.ListN.{length, drop}
 use Rattle.std.specs.Joined.{joined}
 use Rattle.std.specs.Of.Vec.{vec-items}
-use Rattle.orders.specs.declared.ending.Ending.{Ending}
-use Rattle.orders.specs.declared.ending.Ending.the-variants.{End, Damaged}
-use Rattle.orders.specs.declared.listing.Listing.{Listing}
+use Rattle.order_reader.specs.declared.ending.Ending.{Ending}
+use Rattle.order_reader.specs.declared.ending.Ending.the-variants.{End, Damaged}
+use Rattle.order_reader.specs.declared.listing.Listing.{Listing}
 use Rattle.orders.specs.Layout.{Front, front, end, whole, damaged}
 use Rattle.orders.specs.Orders.{Entry, entryOf}
-use Rattle.orders.specs.Reading.{entryAt}
+use Rattle.order_reader.specs.Reading.{entryAt}
 
 -- the orders of a file, the place where reading ends, and how it ends
 pub record Cut : Type 0 where

@@ -1,10 +1,11 @@
 // A whole file, read to its end.
 ghost use mathlib.Core.Path.{_≡_};
+ghost use Rattle.std.specs.Of.Vec.{vec-items};
 ghost use Rattle.std.specs.Vec.{made};
-ghost use Rattle.orders.specs.File.{Reads, cutOf};
+ghost use Rattle.order_reader.specs.File.{Reads, cutOf};
 use crate::ending::Ending;
-use crate::order::Order;
 use crate::reader::Reader;
+use orders::Order;
 use std::alloc::AllocError;
 use std::alloc::Global;
 
@@ -30,9 +31,17 @@ pub fn read_orders<'a>(heap: Global, input: &'a [u8]) -> Result<Listing<'a>, All
             None => break Ending::End,
         }
     };
-    Ok(Listing {
+    Ok(listed(orders, reader.offset(), ending))
+}
+
+fn listed(orders: Vec<Order>, place: usize, ending: Ending) -> Listing
+    ensures orders { λ r. ⌜ vec-items (r .orders) ≡ vec-items (orders .entry) ⌝ }
+    ensures place { λ r. ⌜ r .place ≡ place ⌝ }
+    ensures ending { λ r. ⌜ r .ending ≡ ending ⌝ }
+{
+    Listing {
         orders,
-        place: reader.offset(),
+        place,
         ending,
-    })
+    }
 }

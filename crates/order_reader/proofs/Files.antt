@@ -6,13 +6,13 @@ use native.Mathlib.Omega.{arith}
 use lib.ListN.{length, drop, take-append-drop}
 use Rattle.std.specs.Joined.{joined}
 use Rattle.std.proofs.shelf.Lists.{joined-more, drop-drop, length-drop, append-nil}
-use Rattle.orders.specs.declared.ending.Ending.{Ending}
-use Rattle.orders.specs.declared.ending.Ending.the-variants.{End, Damaged}
+use Rattle.order_reader.specs.declared.ending.Ending.{Ending}
+use Rattle.order_reader.specs.declared.ending.Ending.the-variants.{End, Damaged}
 use Rattle.orders.specs.Layout.{front, end, whole}
 use Rattle.orders.specs.Orders.{Entry}
-use Rattle.orders.specs.Reading.{entryAt}
-use Rattle.orders.specs.File.{Cut, after, cutBy, cutFrom, cutFile, frontOf, Reads}
-use Rattle.orders.proofs.Fronts.{front-none, whole-fits}
+use Rattle.order_reader.specs.Reading.{entryAt}
+use Rattle.order_reader.specs.File.{Cut, after, cutBy, cutFrom, cutFile, frontOf, Reads}
+use Rattle.order_reader.proofs.Fronts.{front-none, whole-fits}
 
 abbrev bytes : Entry → List ℕ
 bytes entry = entry .bytes

@@ -1,8 +1,8 @@
 // How the reading of a file ended.
 use rules::Refusal;
 use rules::RefusalDebug;
-use rules::RefusalPartialEq;
 use rules::RefusalEq;
+use rules::RefusalPartialEq;
 
 #[derive(Clone, Copy, PartialEq, Eq, Debug)]
 pub enum Ending {

@@ -1,4 +1,8 @@
 // The words that every part of the exchange shares.
+mod kind;
 mod refusal;
+mod rule;
 
+pub use kind::Kind;
 pub use refusal::Refusal;
+pub use rule::Rule;

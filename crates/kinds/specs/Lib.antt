@@ -1,1 +1,2 @@
+pub mod DialRules
 pub mod PacketRules

@@ -2,14 +2,14 @@
 use mathlib.Core.Path.{_≡_, refl, sym, ap, subst, _∙_}
 use mathlib.Core.Bool.{Bool, true, false, _&&_, _||_}
 use mathlib.Core.List.{List, [], _∷_}
-use mathlib.Core.Logic.{inl, inr, ⊎-elim}
+use mathlib.Core.Logic.{⊎-elim}
 use Prim.Native.Nat.{ℕ, suc, _<_, _≤_}
 use native.Mathlib.Omega.{arith}
-use lib.Dec.{eqb, ltb}
+use lib.Dec.{eqb, leb, ltb}
 use lib.ListN.{length}
-use Rattle.std.proofs.shelf.Tests.{and-parts, and-from, or-cases, or-left, or-right, eqb-true, eq-eqb, lt-ltb, le-ltb, cases-lt, cases-eq, cond-true, cond-false, false≢true}
+use Rattle.std.proofs.shelf.Tests.{and-parts, and-from, or-cases, or-left, or-right, eqb-true, eq-eqb, lt-ltb, le-ltb, le-leb, cases-lt, cases-eq, cond-true, cond-false, false≢true}
 use Rattle.rules.specs.Kinds.{KindLaws, Shared}
-use Rattle.kinds.specs.DialRules.{places, only-ends, pattern-closes, subject-closes, takes, pattern-takes, places-meet, patterns-meet, well-formed-dial, dialled, dial-meaning, rest, end}
+use Rattle.kinds.specs.DialRules.{places, only-ends, pattern-well-formed, subject-well-formed, takes, pattern-takes, places-meet, patterns-meet, well-formed-dial, dialled, dial-meaning, hash, rest, end}
 use Rattle.kinds.proofs.Places.{Codes, codes-places, length-places, word-of, word-of-below, places-word-of}
 use Rattle.kinds.proofs.Symbols.{shared-symbol, shared-below, shared-first, shared-second, meets-symbol, meets-end, meets-itself, both-take}
 
@@ -19,7 +19,7 @@ record Common (codes others : List ℕ) : Type 0 where
   symbols : List ℕ
   many : length symbols ≡ length codes
   fit : Codes symbols
-  closes : subject-closes symbols ≡ true
+  closes : subject-well-formed symbols ≡ true
   first : pattern-takes codes symbols ≡ true
   second : pattern-takes others symbols ≡ true
 
@@ -40,28 +40,28 @@ ends-take (code ∷ codes) (symbol ∷ symbols) same ends symbol-ends =
     let both : takes code symbol ≡ true = rw (eqb-true code end (here .0), eqb-true symbol end (there .0)) in
     takes-more code symbol codes symbols both (ends-take codes symbols (omega arith) (here .1) (there .1))
 
-ends-close : (codes : List ℕ) → only-ends codes ≡ true → subject-closes (end ∷ codes) ≡ true
+ends-close : (codes : List ℕ) → only-ends codes ≡ true → subject-well-formed (end ∷ codes) ≡ true
 ends-close codes ends = ends
 
-closes-after : (code : ℕ) (codes : List ℕ) → code < rest → pattern-closes (code ∷ codes) ≡ true → pattern-closes codes ≡ true
+closes-after : (code : ℕ) (codes : List ℕ) → code < rest → pattern-well-formed (code ∷ codes) ≡ true → pattern-well-formed codes ≡ true
 closes-after code codes below closes = sym (cond-true (ltb code rest) _ _ (lt-ltb code rest below)) ∙ closes
 
-ends-after : (code : ℕ) (codes : List ℕ) → rest ≤ code → pattern-closes (code ∷ codes) ≡ true → only-ends codes ≡ true
+ends-after : (code : ℕ) (codes : List ℕ) → rest ≤ code → pattern-well-formed (code ∷ codes) ≡ true → only-ends codes ≡ true
 ends-after code codes above closes = sym (cond-false (ltb code rest) _ _ (le-ltb code rest above)) ∙ closes
 
 -- a symbol that both first places take, before symbols that what remains of both takes
-prefixed : (code other symbol : ℕ) (codes others : List ℕ) → symbol < 12 → takes code symbol ≡ true → takes other symbol ≡ true → Common codes others → Common (code ∷ codes) (other ∷ others)
+prefixed : (code other symbol : ℕ) (codes others : List ℕ) → symbol ≤ hash → takes code symbol ≡ true → takes other symbol ≡ true → Common codes others → Common (code ∷ codes) (other ∷ others)
 prefixed code other symbol codes others below here there common = record {
   symbols = symbol ∷ common .symbols;
   many = ap suc (common .many);
   fit = (omega arith, common .fit);
-  closes = cond-true (ltb symbol 12) _ _ (lt-ltb symbol 12 below) ∙ common .closes;
+  closes = cond-true (leb symbol hash) _ _ (le-leb symbol hash below) ∙ common .closes;
   first = takes-more code symbol codes (common .symbols) here (common .first);
   second = takes-more other symbol others (common .symbols) there (common .second);
 }
 
 -- every well-formed pattern takes some subject
-alone : (codes : List ℕ) → Codes codes → pattern-closes codes ≡ true → Common codes codes
+alone : (codes : List ℕ) → Codes codes → pattern-well-formed codes ≡ true → Common codes codes
 alone [] fit closes = record { symbols = []; many = refl; fit = tt; closes = refl; first = refl; second = refl }
 alone (code ∷ codes) fit closes =
     ⊎-elim
@@ -81,8 +81,8 @@ alone (code ∷ codes) fit closes =
     (cases-lt code rest)
 
 more : (code other : ℕ) (codes others : List ℕ) → Codes (code ∷ codes) → Codes (other ∷ others) → length codes ≡ length others
-    → pattern-closes (code ∷ codes) ≡ true → pattern-closes (other ∷ others) ≡ true → patterns-meet (code ∷ codes) (other ∷ others) ≡ true
-    → (pattern-closes codes ≡ true → pattern-closes others ≡ true → patterns-meet codes others ≡ true → Common codes others)
+    → pattern-well-formed (code ∷ codes) ≡ true → pattern-well-formed (other ∷ others) ≡ true → patterns-meet (code ∷ codes) (other ∷ others) ≡ true
+    → (pattern-well-formed codes ≡ true → pattern-well-formed others ≡ true → patterns-meet codes others ≡ true → Common codes others)
     → Common (code ∷ codes) (other ∷ others)
 more code other codes others fit other-fit same closes other-closes meet remains =
     ⊎-elim (λ e. rest-first (eqb-true code rest e))
@@ -139,7 +139,7 @@ more code other codes others fit other-fit same closes other-closes meet remains
           second = takes-more other end others codes (rw other-end) (ends-take others codes (sym same) other-ends ends);
         }
 
-found : (codes others : List ℕ) → Codes codes → Codes others → length codes ≡ length others → pattern-closes codes ≡ true → pattern-closes others ≡ true → patterns-meet codes others ≡ true → Common codes others
+found : (codes others : List ℕ) → Codes codes → Codes others → length codes ≡ length others → pattern-well-formed codes ≡ true → pattern-well-formed others ≡ true → patterns-meet codes others ≡ true → Common codes others
 found [] [] fit other-fit same closes other-closes meet = record { symbols = []; many = refl; fit = tt; closes = refl; first = refl; second = refl }
 found [] (other ∷ others) fit other-fit same closes other-closes meet = absurd (omega arith)
 found (code ∷ codes) [] fit other-fit same closes other-closes meet = absurd (omega arith)

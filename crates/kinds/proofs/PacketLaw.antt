@@ -20,9 +20,13 @@ joined a b c d covers-a covers-c agree =
 under : (s b d : ℕ) → bitAnd (bitAnd s b) (bitAnd b d) ≡ bitAnd s (bitAnd b d)
 under s b d = and-assoc s b (bitAnd b d) ∙ ap (bitAnd s) (sym (and-assoc b b d) ∙ ap (λ x. bitAnd x d) (and-self b))
 
+-- only a value that the mask covers is matched
+covered-since : (s a b : ℕ) → bitAnd s b ≡ a → bitAnd a b ≡ a
+covered-since s a b match = ap (λ x. bitAnd x b) (sym match) ∙ and-assoc s b b ∙ ap (bitAnd s) (and-self b) ∙ match
+
 pub packet-laws : KindLaws packet-meaning
 packet-laws = record {
-  matched = λ a b s both. (and-parts _ _ both .0, refl);
+  matched = λ a b s match. (eq-eqb _ _ (covered-since s a b (eqb-true _ _ match)), refl);
   met = λ a b c d all. let rest = and-parts _ _ all in (rest .0, and-parts _ _ (rest .1) .0);
   meeting = λ a b c d word-a word-b word-c word-d formed other-formed. (
     λ meet.
@@ -34,12 +38,12 @@ packet-laws = record {
           subject = bitOr a c;
           word = or-lt 64 a c word-a word-c;
           formed = refl;
-          first = and-from _ _ formed (eq-eqb _ _ (joined a b c d covers-a covers-c agree));
-          second = and-from _ _ other-formed (eq-eqb _ _ (ap (λ x. bitAnd x d) (or-comm a c) ∙ joined c d a b covers-c covers-a turned));
+          first = eq-eqb _ _ (joined a b c d covers-a covers-c agree);
+          second = eq-eqb _ _ (ap (λ x. bitAnd x d) (or-comm a c) ∙ joined c d a b covers-c covers-a turned);
         },
     λ shared.
-        let first = eqb-true _ _ (and-parts _ _ (shared .first) .1) in
-        let second = eqb-true _ _ (and-parts _ _ (shared .second) .1) in
+        let first = eqb-true _ _ (shared .first) in
+        let second = eqb-true _ _ (shared .second) in
         let s = shared .subject in
         let agree : bitAnd a (bitAnd b d) ≡ bitAnd c (bitAnd b d) =
         ap (λ x. bitAnd x (bitAnd b d)) (sym first) ∙ under s b d ∙ ap (bitAnd s) (and-comm b d) ∙ sym (under s d b)

@@ -1,10 +1,13 @@
 -- The dial kind: patterns and dialled subjects of sixteen places, four bits each. Word A is the pattern and word B is 0.
--- Codes 0 to 9 are digits, 10 is star, 11 is hash, and the four below are named. Assumes nothing.
+-- Codes 0 to 9 are digits and 10 is star; the others are named below. Assumes nothing.
 use mathlib.Core.Bool.{Bool, true, false, cond, _&&_, _||_}
 use mathlib.Core.List.{List, [], _∷_}
 use Prim.Native.Nat.{ℕ, zero, suc, _*_, _/_, _%_, _^_}
 use lib.Dec.{eqb, ltb, leb}
 use Rattle.rules.specs.Kinds.{KindMeaning}
+
+abbrev pub hash : ℕ
+hash = 11
 
 abbrev pub any-digit : ℕ
 any-digit = 12
@@ -28,14 +31,14 @@ only-ends [] = true
 only-ends (code ∷ codes) = eqb code end && only-ends codes
 
 -- after the first rest or end only ends follow
-abbrev pub pattern-closes : List ℕ → Bool
-pattern-closes [] = true
-pattern-closes (code ∷ codes) = cond (ltb code rest) (pattern-closes codes) (only-ends codes)
+abbrev pub pattern-well-formed : List ℕ → Bool
+pattern-well-formed [] = true
+pattern-well-formed (code ∷ codes) = cond (ltb code rest) (pattern-well-formed codes) (only-ends codes)
 
 -- digits, star and hash, and after the first end only ends
-abbrev pub subject-closes : List ℕ → Bool
-subject-closes [] = true
-subject-closes (code ∷ codes) = cond (ltb code any-digit) (subject-closes codes) (eqb code end && only-ends codes)
+abbrev pub subject-well-formed : List ℕ → Bool
+subject-well-formed [] = true
+subject-well-formed (code ∷ codes) = cond (leb code hash) (subject-well-formed codes) (eqb code end && only-ends codes)
 
 -- whether a place of a pattern, other than the rest, takes a place of a subject
 abbrev pub takes : ℕ → ℕ → Bool
@@ -51,12 +54,12 @@ pattern-takes [] (symbol ∷ symbols) = false
 pattern-takes (code ∷ codes) [] = false
 pattern-takes (code ∷ codes) (symbol ∷ symbols) = eqb code rest || (takes code symbol && pattern-takes codes symbols)
 
-abbrev pub any-of-several : ℕ → Bool
-any-of-several code = eqb code any-digit || eqb code digit-but-zero
+abbrev pub wildcard : ℕ → Bool
+wildcard code = eqb code any-digit || eqb code digit-but-zero
 
 -- whether two places, neither of them the rest, take some symbol in common
 abbrev pub places-meet : ℕ → ℕ → Bool
-places-meet code other = takes code other || (takes other code || (any-of-several code && any-of-several other))
+places-meet code other = takes code other || (takes other code || (wildcard code && wildcard other))
 
 abbrev pub patterns-meet : List ℕ → List ℕ → Bool
 patterns-meet [] [] = true
@@ -65,10 +68,10 @@ patterns-meet (code ∷ codes) [] = false
 patterns-meet (code ∷ codes) (other ∷ others) = eqb code rest || (eqb other rest || (places-meet code other && patterns-meet codes others))
 
 abbrev pub well-formed-dial : ℕ → ℕ → Bool
-well-formed-dial a b = eqb b 0 && pattern-closes (places 16 a)
+well-formed-dial a b = eqb b 0 && pattern-well-formed (places 16 a)
 
 abbrev pub dialled : ℕ → Bool
-dialled subject = subject-closes (places 16 subject)
+dialled subject = subject-well-formed (places 16 subject)
 
 abbrev pub dial-meaning : KindMeaning
 dial-meaning = record {

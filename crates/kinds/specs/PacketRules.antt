@@ -13,7 +13,8 @@ abbrev pub packet-meaning : KindMeaning
 packet-meaning = record {
   well-formed = covered;
   well-formed-subject = λ subject. true;
-  matches = λ value mask subject. covered value mask && eqb (bitAnd subject mask) value;
+  -- where the mask does not cover the value no subject passes this, so it needs no second test
+  matches = λ value mask subject. eqb (bitAnd subject mask) value;
   -- the values agree on the bits that both masks have
   meets = λ value mask other-value other-mask.
       covered value mask && (covered other-value other-mask && eqb (bitAnd value (bitAnd mask other-mask)) (bitAnd other-value (bitAnd mask other-mask)));

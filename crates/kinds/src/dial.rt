@@ -2,7 +2,7 @@
 ghost use mathlib.Core.List.{_∷_};
 ghost use mathlib.Core.Path.{_≡_};
 ghost use Prim.Native.Nat.{_-_, _<_, _≤_};
-ghost use Rattle.kinds.specs.DialRules.{places, only-ends, pattern-closes, subject-closes, takes, pattern-takes, any-of-several, places-meet, patterns-meet, dial-meaning};
+ghost use Rattle.kinds.specs.DialRules.{places, only-ends, pattern-well-formed, subject-well-formed, takes, pattern-takes, wildcard, places-meet, patterns-meet, dial-meaning};
 use rules::Kind;
 
 // Codes 0 to 9 are digits, 10 is star, 11 is hash.
@@ -38,30 +38,30 @@ fn only_ends(word: u64, left: u32) -> bool
     first_place(word, left) == END && only_ends(word, left - 1)
 }
 
-fn pattern_closes(word: u64, left: u32) -> bool
+fn pattern_well_formed(word: u64, left: u32) -> bool
     requires { ⌜ left ≤ 16 ⌝ }
-    ensures { λ r. ⌜ r ≡ pattern-closes (places left word) ⌝ }
+    ensures { λ r. ⌜ r ≡ pattern-well-formed (places left word) ⌝ }
 {
     if left == 0 {
         return true;
     }
     if first_place(word, left) < REST {
-        pattern_closes(word, left - 1)
+        pattern_well_formed(word, left - 1)
     } else {
         only_ends(word, left - 1)
     }
 }
 
-fn subject_closes(word: u64, left: u32) -> bool
+fn subject_well_formed(word: u64, left: u32) -> bool
     requires { ⌜ left ≤ 16 ⌝ }
-    ensures { λ r. ⌜ r ≡ subject-closes (places left word) ⌝ }
+    ensures { λ r. ⌜ r ≡ subject-well-formed (places left word) ⌝ }
 {
     if left == 0 {
         return true;
     }
     let symbol = first_place(word, left);
     if symbol <= HASH {
-        subject_closes(word, left - 1)
+        subject_well_formed(word, left - 1)
     } else {
         symbol == END && only_ends(word, left - 1)
     }
@@ -90,8 +90,8 @@ fn pattern_takes(pattern: u64, subject: u64, left: u32) -> bool
     code == REST || takes(code, symbol) && pattern_takes(pattern, subject, left - 1)
 }
 
-fn any_of_several(code: u64) -> bool
-    ensures { λ r. ⌜ r ≡ any-of-several code ⌝ }
+fn wildcard(code: u64) -> bool
+    ensures { λ r. ⌜ r ≡ wildcard code ⌝ }
 {
     code == ANY_DIGIT || code == DIGIT_BUT_ZERO
 }
@@ -100,7 +100,7 @@ fn any_of_several(code: u64) -> bool
 fn places_meet(code: u64, other: u64) -> bool
     ensures { λ r. ⌜ r ≡ places-meet code other ⌝ }
 {
-    takes(code, other) || takes(other, code) || any_of_several(code) && any_of_several(other)
+    takes(code, other) || takes(other, code) || wildcard(code) && wildcard(other)
 }
 
 // First places first, then what remains of both.
@@ -122,11 +122,11 @@ pub impl Kind for Dial as DialKind {
     ghost meaning = { dial-meaning };
 
     fn well_formed(a: u64, b: u64) -> bool {
-        b == 0 && pattern_closes(a, PLACES)
+        b == 0 && pattern_well_formed(a, PLACES)
     }
 
     fn well_formed_subject(subject: u64) -> bool {
-        subject_closes(subject, PLACES)
+        subject_well_formed(subject, PLACES)
     }
 
     fn matches(a: u64, b: u64, subject: u64) -> bool {

@@ -17,7 +17,7 @@ pub impl Kind for Packet as PacketKind {
     }
 
     fn matches(value: u64, mask: u64, subject: u64) -> bool {
-        Self::well_formed(value, mask) && subject & mask == value
+        subject & mask == value
     }
 
     fn meets(value: u64, mask: u64, other_value: u64, other_mask: u64) -> bool {

@@ -10,3 +10,6 @@ pub fn worked_cases() -> u8
 {
     26
 }
+
+#[cfg(test)]
+mod tests;

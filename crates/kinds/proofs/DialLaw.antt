@@ -186,9 +186,9 @@ shared a b other-a other-b formed other-formed meet =
 
 pub dial-laws : KindLaws dial-meaning
 dial-laws = record {
-  matched = λ a b subject match. let parts = and-parts (well-formed-dial a b) _ match in (parts .0, and-parts (dialled subject) _ (parts .1) .0);
-  met = λ a b other-a other-b meet. let parts = and-parts (well-formed-dial a b) _ meet in (parts .0, and-parts (well-formed-dial other-a other-b) _ (parts .1) .0);
-  meeting = λ a b other-a other-b word-a word-b word-other-a word-other-b formed other-formed. (
+  only-formed-match = λ a b subject match. let parts = and-parts (well-formed-dial a b) _ match in (parts .0, and-parts (dialled subject) _ (parts .1) .0);
+  only-formed-meet = λ a b other-a other-b meet. let parts = and-parts (well-formed-dial a b) _ meet in (parts .0, and-parts (well-formed-dial other-a other-b) _ (parts .1) .0);
+  meets-exactly = λ a b other-a other-b word-a word-b word-other-a word-other-b formed other-formed. (
     λ meet. shared a b other-a other-b formed other-formed (and-parts (well-formed-dial other-a other-b) _ (and-parts (well-formed-dial a b) _ meet .1) .1),
     λ both.
         let subject = both .subject in

@@ -26,9 +26,9 @@ covered-since s a b match = ap (λ x. bitAnd x b) (sym match) ∙ and-assoc s b 
 
 pub packet-laws : KindLaws packet-meaning
 packet-laws = record {
-  matched = λ a b s match. (eq-eqb _ _ (covered-since s a b (eqb-true _ _ match)), refl);
-  met = λ a b c d all. let rest = and-parts _ _ all in (rest .0, and-parts _ _ (rest .1) .0);
-  meeting = λ a b c d word-a word-b word-c word-d formed other-formed. (
+  only-formed-match = λ a b s match. (eq-eqb _ _ (covered-since s a b (eqb-true _ _ match)), refl);
+  only-formed-meet = λ a b c d all. let rest = and-parts _ _ all in (rest .0, and-parts _ _ (rest .1) .0);
+  meets-exactly = λ a b c d word-a word-b word-c word-d formed other-formed. (
     λ meet.
         let covers-a = eqb-true _ _ formed in
         let covers-c = eqb-true _ _ other-formed in

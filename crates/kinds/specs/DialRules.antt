@@ -57,6 +57,9 @@ pattern-takes (code ∷ codes) (symbol ∷ symbols) = eqb code rest || (takes co
 abbrev pub wildcard : ℕ → Bool
 wildcard code = eqb code any-digit || eqb code digit-but-zero
 
+-- Below is how meeting is found, first places first and then what remains of both. That it is right needs no belief:
+-- the law of the kind says that two patterns meet exactly when some subject is matched by both.
+
 -- whether two places, neither of them the rest, take some symbol in common
 abbrev pub places-meet : ℕ → ℕ → Bool
 places-meet code other = takes code other || (takes other code || (wildcard code && wildcard other))

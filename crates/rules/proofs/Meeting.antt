@@ -10,17 +10,17 @@ module _ (kind : KindMeaning) (laws : KindLaws kind) (a b other-a other-b : ℕ)
   -- two rules that match one subject meet
   pub matched-meet : (subject : ℕ) → Word subject → kind .matches a b subject ≡ true → kind .matches other-a other-b subject ≡ true → kind .meets a b other-a other-b ≡ true
   matched-meet subject word first second =
-      let one = laws .matched a b subject first in
-      let other = laws .matched other-a other-b subject second in
-      laws .meeting a b other-a other-b word-a word-b word-other-a word-other-b (one .0) (other .0) .1
+      let one = laws .only-formed-match a b subject first in
+      let other = laws .only-formed-match other-a other-b subject second in
+      laws .meets-exactly a b other-a other-b word-a word-b word-other-a word-other-b (one .0) (other .0) .1
       (record { subject = subject; word = word; formed = one .1; first = first; second = second })
 
   -- the tests of well-formed rules and of others together
   pub decides-meets : Decides (kind .meets a b other-a other-b) (Shared kind a b other-a other-b)
   decides-meets = (
     λ meet.
-        let formed = laws .met a b other-a other-b meet in
-        laws .meeting a b other-a other-b word-a word-b word-other-a word-other-b (formed .0) (formed .1) .0 meet,
+        let formed = laws .only-formed-meet a b other-a other-b meet in
+        laws .meets-exactly a b other-a other-b word-a word-b word-other-a word-other-b (formed .0) (formed .1) .0 meet,
     λ shared. matched-meet (shared .subject) (shared .word) (shared .first) (shared .second),
   )
 

@@ -24,10 +24,10 @@ pub record Shared (kind : KindMeaning) (a b other-a other-b : ℕ) : Type 0 wher
 
 pub record KindLaws (kind : KindMeaning) : Type 0 where
   -- what is not well formed matches nothing and is matched by nothing
-  pub matched : (a b subject : ℕ) → kind .matches a b subject ≡ true → (kind .well-formed a b ≡ true) × (kind .well-formed-subject subject ≡ true)
+  pub only-formed-match : (a b subject : ℕ) → kind .matches a b subject ≡ true → (kind .well-formed a b ≡ true) × (kind .well-formed-subject subject ≡ true)
   -- what is not well formed meets nothing
-  pub met : (a b other-a other-b : ℕ) → kind .meets a b other-a other-b ≡ true → (kind .well-formed a b ≡ true) × (kind .well-formed other-a other-b ≡ true)
+  pub only-formed-meet : (a b other-a other-b : ℕ) → kind .meets a b other-a other-b ≡ true → (kind .well-formed a b ≡ true) × (kind .well-formed other-a other-b ≡ true)
   -- two well-formed rules meet exactly when some well-formed subject is matched by both
-  pub meeting : (a b other-a other-b : ℕ) → Word a → Word b → Word other-a → Word other-b
+  pub meets-exactly : (a b other-a other-b : ℕ) → Word a → Word b → Word other-a → Word other-b
       → kind .well-formed a b ≡ true → kind .well-formed other-a other-b ≡ true
       → (kind .meets a b other-a other-b ≡ true → Shared kind a b other-a other-b) × (Shared kind a b other-a other-b → kind .meets a b other-a other-b ≡ true)

@@ -1,5 +1,5 @@
 -- Laws of `bitAnd` and `bitOr`, by their last digits. Assumes nothing.
-use mathlib.Core.Path.{_≡_, refl, ap, _∙_}
+use mathlib.Core.Path.{_≡_, refl}
 use Prim.Native.Nat.{ℕ, _/_}
 use native.Mathlib.Omega.{arith}
 use lib.Arith.{bin-ind}

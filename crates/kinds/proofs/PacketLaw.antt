@@ -1,9 +1,7 @@
 -- The law of the packet kind. Assumes nothing.
 use mathlib.Core.Path.{_≡_, refl, sym, ap, _∙_}
-use mathlib.Core.Bool.{true, _&&_}
-use Prim.Native.Nat.{ℕ, _^_}
+use Prim.Native.Nat.{ℕ}
 use lib.Bits.{bitAnd, bitOr, and-comm, and-self, or-comm, or-lt}
-use lib.Dec.{eqb}
 use Rattle.std.proofs.shelf.Tests.{and-parts, and-from, eqb-true, eq-eqb}
 use Rattle.rules.specs.Kinds.{KindLaws}
 use Rattle.kinds.specs.PacketRules.{covered, packet-meaning}

@@ -1,5 +1,4 @@
 // Packet rules: word A is a value, word B the mask of the bits that count.
-ghost use mathlib.Core.Path.{_≡_};
 ghost use Rattle.kinds.specs.PacketRules.{packet-meaning};
 use rules::Kind;
 

@@ -8,6 +8,6 @@ use Rattle.order_reader.specs.declared.ending.Ending.{Ending}
 use Rattle.order_reader.specs.declared.ending.Ending.the-variants.{End, Damaged}
 
 -- the last line of an order file: its end, or a damaged order with its place, its refusal and 0
-abbrev pub endingLine : (place : ℕ) → Ending → List ℕ
-endingLine place End = codes "end " ++ decimal place
-endingLine place (Damaged refusal) = codes "? " ++ (decimal place ++ (codes " " ++ (decimal (number refusal) ++ codes " 0")))
+abbrev pub ending-line : (place : ℕ) → Ending → List ℕ
+ending-line place End = codes "end " ++ decimal place
+ending-line place (Damaged refusal) = codes "? " ++ (decimal place ++ (codes " " ++ (decimal (number refusal) ++ codes " 0")))

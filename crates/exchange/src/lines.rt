@@ -2,7 +2,7 @@
 ghost use mathlib.Core.Path.{_≡_};
 ghost use Rattle.std.specs.Of.String.{string-bytes};
 ghost use Rattle.std.specs.Vec.{made};
-ghost use Rattle.exchange.specs.Lines.{endingLine};
+ghost use Rattle.exchange.specs.Lines.{ending-line};
 use order_reader::Ending;
 use orders::Order;
 use std::alloc::AllocError;
@@ -46,7 +46,7 @@ pub fn order_line(heap: Global, order: &Order) -> Result<String, AllocError> {
 
 // The end of the file, or the damaged order at the place.
 pub fn ending_line(heap: Global, place: usize, ending: Ending) -> Result<String, AllocError>
-    ensures { λ r. ⌜ made r (λ line. string-bytes line ≡ endingLine place ending) ⌝ }
+    ensures { λ r. ⌜ made r (λ line. string-bytes line ≡ ending-line place ending) ⌝ }
 {
     match ending {
         Ending::End => format!(heap, "end {place}"),

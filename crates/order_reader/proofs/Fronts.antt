@@ -9,7 +9,7 @@ use lib.ListN.{length, getD}
 use Rattle.std.proofs.shelf.Tests.{le-leb, leb-true, cond-true, cond-both}
 use Rattle.std.proofs.shelf.Lists.{nil-from-length}
 use Rattle.rules.specs.declared.refusal.Refusal.the-variants.{CutShort}
-use Rattle.orders.specs.Layout.{Front, front, end, whole, damaged, withBody, lettered}
+use Rattle.orders.specs.Layout.{Front, front, end, whole, damaged, with-body, lettered}
 
 pub front-none : (left : List ℕ) → length left ≡ 0 → front left ≡ end
 front-none left e = ap front (nil-from-length left e)
@@ -22,7 +22,7 @@ front-marked (a ∷ b ∷ letter ∷ body) h mark =
     let rest : length body ≡ length (a ∷ b ∷ letter ∷ body) - 3 = omega arith in
     cond-true (eqb a 0x4B && eqb b 0x54) _ _ mark ∙ ap (lettered letter) rest
 
-pub whole-body : (body left : ℕ) → body ≤ left → withBody body left ≡ whole (3 + body)
+pub whole-body : (body left : ℕ) → body ≤ left → with-body body left ≡ whole (3 + body)
 whole-body body left h = cond-true (leb body left) _ _ (le-leb body left h)
 
 -- an order has its mark and letter, and lies within so many bytes
@@ -34,7 +34,7 @@ Fits most (damaged refusal) = Unit {0}
 either : (P : Front → Type 0) (b : Bool) (x y : Front) → P x → P y → P (cond b x y)
 either P b x y p q = cond-both b x y P (λ _. p) (λ _. q)
 
-body-fits : (body left : ℕ) → Fits (3 + left) (withBody body left)
+body-fits : (body left : ℕ) → Fits (3 + left) (with-body body left)
 body-fits body left =
     cond-both (leb body left) (whole (3 + body)) (damaged CutShort) (Fits (3 + left)) (λ e. let h = leb-true body left e in (omega arith, omega arith)) (λ e. tt)
 

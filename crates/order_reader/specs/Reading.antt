@@ -12,23 +12,23 @@ use Rattle.rules.specs.declared.refusal.Refusal.the-variants.{CutShort}
 use Rattle.orders.specs.declared.order.Order.{Order}
 use Rattle.orders.specs.declared.part.Part.{Part}
 use Rattle.orders.specs.Layout.{Front, front, end, whole, damaged}
-use Rattle.orders.specs.Orders.{Entry, entryOf, bytesOf}
+use Rattle.orders.specs.Orders.{Entry, entry-of, bytes-of}
 
 -- the order of so many bytes at the front of what is left
-abbrev pub entryAt : (place : ℕ) (left : List ℕ) (size : ℕ) → Entry
-entryAt place left size = record { letter = getD left 2 0; place = place; bytes = take size left }
+abbrev pub entry-at : (place : ℕ) (left : List ℕ) (size : ℕ) → Entry
+entry-at place left size = record { letter = getD left 2 0; place = place; bytes = take size left }
 
 -- the order that is found at the front, or why there is none
 abbrev pub Gives : (found : Front) (place : ℕ) (left : List ℕ) → Option (Result Order Refusal) → Type 0
 Gives found place left None = found ≡ end
-Gives found place left (Some (Ok order)) = (found ≡ whole (length (bytesOf order))) × (entryOf order ≡ entryAt place left (length (bytesOf order)))
+Gives found place left (Some (Ok order)) = (found ≡ whole (length (bytes-of order))) × (entry-of order ≡ entry-at place left (length (bytes-of order)))
 Gives found place left (Some (Err refusal)) = found ≡ damaged refusal
 
 -- past an order that was given, else where it was
-abbrev pub offsetAfter : (offset : ℕ) → Option (Result Order Refusal) → ℕ
-offsetAfter offset None = offset
-offsetAfter offset (Some (Ok order)) = offset + length (bytesOf order)
-offsetAfter offset (Some (Err refusal)) = offset
+abbrev pub offset-after : (offset : ℕ) → Option (Result Order Refusal) → ℕ
+offset-after offset None = offset
+offset-after offset (Some (Ok order)) = offset + length (bytes-of order)
+offset-after offset (Some (Err refusal)) = offset
 
 -- the front of what is left as one part, where it has so many bytes
 abbrev pub Cuts : (size place : ℕ) (left : List ℕ) → Result (Part size) Refusal → Type 0

@@ -2,7 +2,7 @@
 ghost use mathlib.Core.Path.{_≡_};
 ghost use Rattle.std.specs.Of.Vec.{vec-items};
 ghost use Rattle.std.specs.Vec.{made};
-ghost use Rattle.order_reader.specs.File.{Reads, cutOf};
+ghost use Rattle.order_reader.specs.File.{Reads, cut-of};
 use crate::ending::Ending;
 use crate::reader::Reader;
 use orders::Order;
@@ -18,7 +18,7 @@ pub struct Listing<'a> {
 }
 
 pub fn read_orders<'a>(heap: Global, input: &'a [u8]) -> Result<Listing<'a>, AllocError>
-    ensures { λ r. ⌜ made r (λ listing. Reads (now (input .entry)) (cutOf listing)) ⌝ }
+    ensures { λ r. ⌜ made r (λ listing. Reads (now (input .entry)) (cut-of listing)) ⌝ }
 {
     let mut orders = Vec::new(heap);
     let mut reader = Reader::new(input);

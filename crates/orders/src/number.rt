@@ -2,11 +2,11 @@
 ghost use mathlib.Core.Path.{_≡_};
 ghost use Prim.Native.Nat.{_+_, _*_, _^_, _<_, _≤_};
 ghost use lib.ListN.{length};
-ghost use Rattle.orders.specs.Layout.{bigEndian};
+ghost use Rattle.orders.specs.Layout.{big-endian};
 
 pub(crate) fn big_endian(bytes: &[u8]) -> u64
     requires { ⌜ length (now bytes) ≤ 8 ⌝ }
-    ensures value { λ r. ⌜ r ≡ bigEndian (now (bytes .entry)) ⌝ }
+    ensures value { λ r. ⌜ r ≡ big-endian (now (bytes .entry)) ⌝ }
     ensures bound { λ r. ⌜ r < 256 ^ length (now (bytes .entry)) ⌝ }
 {
     let mut value = 0;

@@ -3,7 +3,7 @@ ghost use mathlib.Core.Path.{_≡_};
 ghost use Prim.Native.Nat.{_^_, _<_};
 ghost use lib.ListN.{drop};
 ghost use Rattle.orders.specs.Layout.{front};
-ghost use Rattle.order_reader.specs.Reading.{Gives, offsetAfter};
+ghost use Rattle.order_reader.specs.Reading.{Gives, offset-after};
 use super::Reader;
 use crate::front::first_order;
 use orders::Order;
@@ -14,7 +14,7 @@ impl<'a> Reader<'a> {
     pub fn next_order(&mut self) -> Option<Result<Order<'a>, Refusal>>
         ensures input { λ _. ⌜ now (self .exit) .input ≡ now (self .entry) .input ⌝ }
         ensures answer { λ r. ⌜ Gives (front (drop (now (self .entry) .offset) (now (now (self .entry) .input)))) (now (self .entry) .offset) (drop (now (self .entry) .offset) (now (now (self .entry) .input))) r ⌝ }
-        ensures offset { λ r. ⌜ now (self .exit) .offset ≡ offsetAfter (now (self .entry) .offset) r ⌝ }
+        ensures offset { λ r. ⌜ now (self .exit) .offset ≡ offset-after (now (self .entry) .offset) r ⌝ }
     {
         let input = self.input;
         let offset = self.offset;
@@ -26,8 +26,8 @@ impl<'a> Reader<'a> {
 }
 
 fn offset_after(offset: usize, outcome: &Option<Result<Order, Refusal>>) -> usize
-    requires { ⌜ offsetAfter offset (now outcome) < 2 ^ 64 ⌝ }
-    ensures { λ r. ⌜ r ≡ offsetAfter offset (now (outcome .entry)) ⌝ }
+    requires { ⌜ offset-after offset (now outcome) < 2 ^ 64 ⌝ }
+    ensures { λ r. ⌜ r ≡ offset-after offset (now (outcome .entry)) ⌝ }
 {
     match outcome {
         Some(Ok(order)) => offset + order.bytes().len(),

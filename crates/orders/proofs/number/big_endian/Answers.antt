@@ -7,7 +7,7 @@ use native.Mathlib.Omega.{arith}
 use lib.ListN.{length}
 use Rattle.std.proofs.shelf.Digits.{number-more}
 use Rattle.std.proofs.shelf.Lists.{take-all}
-use Rattle.orders.specs.Layout.{bigEndian}
+use Rattle.orders.specs.Layout.{big-endian}
 use Rattle.orders.proofs.number.big_endian.Needs as need
 
 room : (i : ℕ) → i < 8 → 256 ^ i ≤ 2 ^ 56
@@ -27,6 +27,6 @@ pub returns : need.returns
 returns c =
     let all : c .loop-byte .byte-index ≡ length (c .args .bytes .now) = omega arith in
     record {
-      value = c .loop-byte .inv .0 ∙ ap bigEndian (take-all (c .loop-byte .byte-index) (c .args .bytes .now) (omega arith));
+      value = c .loop-byte .inv .0 ∙ ap big-endian (take-all (c .loop-byte .byte-index) (c .args .bytes .now) (omega arith));
       bound = subst (λ n. c .loop-byte .value < 256 ^ n) all (c .loop-byte .inv .1);
     }

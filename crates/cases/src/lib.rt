@@ -1,0 +1,15 @@
+// The worked cases, as one list that is proved. The tests put the same questions to the code.
+ghost use mathlib.Core.Path.{_≡_};
+ghost use lib.ListN.{length};
+ghost use Rattle.cases.specs.Cases.{WorkedCases, worked-cases};
+
+// How many cases there are; that each of them holds is the proof.
+pub fn worked_cases() -> u8
+    ensures count { λ r. ⌜ r ≡ length worked-cases ⌝ }
+    ensures hold { λ _. ⌜ WorkedCases ⌝ }
+{
+    26
+}
+
+#[cfg(test)]
+mod tests;

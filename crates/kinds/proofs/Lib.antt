@@ -1,0 +1,5 @@
+mod BitLaws
+mod DialLaw
+mod PacketLaw
+mod Places
+mod Symbols

@@ -1,0 +1,2 @@
+pub mod DialRules
+pub mod PacketRules

@@ -1,11 +1,10 @@
 // Checks an order file: reads it from the standard input and prints each order, and then how the file ended.
 mod input;
-mod lines;
 
 use input::read_input;
-use lines::ending_line;
-use lines::order_line;
 use order_reader::read_orders;
+use order_text::ending_line;
+use order_text::order_line;
 use std::error::AnyError;
 
 fn main(rt: LibcRuntime) -> Result<(), AnyError> {

@@ -1,5 +1,5 @@
 mod BitLaws
 mod DialLaw
 mod PacketLaw
-mod Places
+pub mod Places
 mod Symbols

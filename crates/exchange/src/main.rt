@@ -30,3 +30,6 @@ fn check(rt: &LibcRuntime, bytes: &[u8]) -> Result<(), AnyError> {
     rt.println(ending_line(heap, listing.place, listing.ending)?)?;
     Ok(())
 }
+
+#[cfg(test)]
+mod tests;

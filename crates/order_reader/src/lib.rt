@@ -10,3 +10,6 @@ pub use ending::EndingPartialEq;
 pub use listing::Listing;
 pub use listing::read_orders;
 pub use reader::Reader;
+
+#[cfg(test)]
+mod tests;

@@ -8,6 +8,12 @@ pub fn worked_cases() -> u8
     ensures count { λ r. ⌜ r ≡ length worked-cases ⌝ }
     ensures hold { λ _. ⌜ WorkedCases ⌝ }
 {
+    listed()
+}
+
+fn listed() -> u8
+    ensures { λ r. ⌜ r ≡ length worked-cases ⌝ }
+{
     26
 }
 

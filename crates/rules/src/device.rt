@@ -1,0 +1,73 @@
+// A slot device: slots, each empty or taken by a rule of one kind.
+ghost use mathlib.Core.List.{List};
+ghost use mathlib.Core.Path.{_≡_};
+ghost use Prim.Native.Nat.{ℕ, _≤_};
+ghost use lib.ListN.{length};
+ghost use Rattle.rules.specs.declared.event.Event.{Event};
+ghost use Rattle.rules.specs.Slots.{Slot, Numbered, reading, writing, erasing, answer, slots-after, trace-after, answer-matches, first-match};
+use crate::kind::Kind;
+use crate::refusal::Refusal;
+use crate::rule::Rule;
+
+// Whether read answered with a rule that matches.
+fn answer_matches<K: Kind>(read: Result<Option<Rule>, Refusal>, subject: u64) -> bool
+    ensures { λ r. ⌜ r ≡ answer-matches (K·Kind .meaning) subject read ⌝ }
+{
+    match read {
+        Ok(Some(rule)) => K::matches(rule.word_a, rule.word_b, subject),
+        _ => false,
+    }
+}
+
+// What a device does is fixed by its slots, but for the rule of its trace, which is free.
+pub trait SlotDevice {
+    // the one kind of rule that the device holds
+    type Kind: Kind;
+
+    ghost slots: { Self → List Slot };
+
+    ghost trace: { Self → ℕ };
+
+    // the next trace, from the last one and from what was carried out
+    ghost traced: { ℕ → Event → ℕ };
+
+    // the ghost names of the memory that is lent to the device
+    ghost lenders: { Self → List ℕ };
+
+    law few: { (d : Self) → length (slots d) ≤ 65535 };
+
+    law numbered: { (d : Self) → Numbered (slots d) };
+
+    fn count(&self) -> u16
+        ensures answer { λ r. ⌜ r ≡ length (slots (now (self .entry))) ⌝ };
+
+    fn read(&self, slot: u16) -> Result<Option<Rule>, Refusal>
+        ensures answer { λ r. ⌜ r ≡ reading (slots (now (self .entry))) slot ⌝ };
+
+    fn write(&mut self, slot: u16, rule: Rule) -> Result<(), Refusal>
+        ensures answer { λ r. ⌜ r ≡ answer (writing (slots (now (self .entry))) slot rule) ⌝ }
+        ensures slots { λ _. ⌜ slots (now (self .exit)) ≡ slots-after (slots (now (self .entry))) (writing (slots (now (self .entry))) slot rule) ⌝ }
+        ensures trace { λ _. ⌜ trace (now (self .exit)) ≡ trace-after traced (trace (now (self .entry))) (writing (slots (now (self .entry))) slot rule) ⌝ }
+        ensures same { λ _. ⌜ lenders (now (self .exit)) ≡ lenders (now (self .entry)) ⌝ };
+
+    fn erase(&mut self, slot: u16) -> Result<(), Refusal>
+        ensures answer { λ r. ⌜ r ≡ answer (erasing (slots (now (self .entry))) slot) ⌝ }
+        ensures slots { λ _. ⌜ slots (now (self .exit)) ≡ slots-after (slots (now (self .entry))) (erasing (slots (now (self .entry))) slot) ⌝ }
+        ensures trace { λ _. ⌜ trace (now (self .exit)) ≡ trace-after traced (trace (now (self .entry))) (erasing (slots (now (self .entry))) slot) ⌝ }
+        ensures same { λ _. ⌜ lenders (now (self .exit)) ≡ lenders (now (self .entry)) ⌝ };
+
+    // the lowest slot whose rule matches
+    fn first_match(&self, subject: u64) -> Option<u16>
+        ensures answer { λ r. ⌜ r ≡ first-match (Kind·Kind .meaning) (slots (now (self .entry))) subject ⌝ }
+    {
+        let count = self.count();
+        let mut slot = 0;
+        while slot < count {
+            if answer_matches::<Self::Kind>(self.read(slot), subject) {
+                return Some(slot);
+            }
+            slot += 1;
+        }
+        None
+    }
+}

@@ -1,18 +1,14 @@
 -- The first place that passes a test, found from place to place. Assumes nothing.
 use mathlib.Core.Bool.{Bool, true, false}
 use mathlib.Core.List.{List}
-use mathlib.Core.Path.{_≡_, sym, ap, _∙_}
+use mathlib.Core.Path.{_≡_, ap, _∙_}
 use Prim.Native.Nat.{ℕ, suc, _+_, _<_, _≤_}
 use native.Mathlib.Omega.{arith}
 use lib.ListN.{length, getD, drop}
 use Rattle.std.specs.declared.option.Option.the-variants.{None, Some}
-use Rattle.std.specs.declared.result.Result.{Result}
-use Rattle.std.specs.declared.result.Result.the-variants.{Ok}
 use Rattle.std.proofs.shelf.Lists.{at-drop-more, at-drop-all}
 use Rattle.std.proofs.shelf.Tests.{cond-true, cond-false, lt-ltb, le-ltb}
-use Rattle.rules.specs.declared.refusal.Refusal.{Refusal}
-use Rattle.rules.specs.Kinds.{KindMeaning}
-use Rattle.rules.specs.Slots.{Slot, reading, slot-matches, answer-matches, first-place, place-within}
+use Rattle.rules.specs.Slots.{first-place, place-within}
 
 module _ {X : Type 0} (passes : X → Bool) (xs : List X) where
   -- none of the first places passes
@@ -39,10 +35,3 @@ module _ {X : Type 0} (passes : X → Bool) (xs : List X) where
   found-none i past over =
       let here : first-place passes (drop i xs) ≡ 0 = at-drop-all (first-place passes) xs i past in
       cond-false _ _ _ (le-ltb (first-place passes xs) (length xs) (omega arith))
-
--- what the answer of read tells of the slot
-pub answer-tells : (kind : KindMeaning) (subject : ℕ) (slots : List Slot) (slot : ℕ) (read : Result Slot Refusal) (result : Bool)
-    → slot < length slots → read ≡ reading slots slot → result ≡ answer-matches kind subject read → slot-matches kind subject (getD slots slot None) ≡ result
-answer-tells kind subject slots slot read result below is-read is-result =
-    let found : read ≡ Ok (getD slots slot None) = is-read ∙ cond-true _ _ _ (lt-ltb slot (length slots) below) in
-    sym (is-result ∙ ap (answer-matches kind subject) found)

@@ -2,7 +2,7 @@
 use mathlib.Core.Bool.{Bool, true, false, cond}
 use mathlib.Core.List.{List, [], _∷_}
 use mathlib.Core.Path.{_≡_}
-use Prim.Native.Nat.{ℕ, zero, suc}
+use Prim.Native.Nat.{ℕ, zero, suc, _≤_}
 use lib.Dec.{eqb, ltb}
 use lib.ListN.{length, getD, set}
 use Rattle.std.specs.declared.option.Option.{Option}
@@ -20,9 +20,15 @@ use Rattle.rules.specs.Kinds.{KindMeaning}
 abbrev pub Slot : Type 0
 Slot = Option Rule
 
--- no rule in a slot has number 0
-abbrev pub Numbered : List Slot → Type 0
-Numbered slots = (slot : ℕ) (rule : Rule) → getD slots slot None ≡ Some rule → rule .number ≡ 0 → ⊥
+-- the slot that a record stands for: number 0 is an empty one, whatever else the record holds
+abbrev pub in-slot : Rule → Slot
+in-slot rule = cond (eqb (rule .number) 0) None (Some rule)
+
+-- what holds of the slots of every device
+pub record SlotLaws (slots : List Slot) : Type 0 where
+  pub few : length slots ≤ 65535
+  -- no rule in a slot has number 0
+  pub numbered : (slot : ℕ) (rule : Rule) → getD slots slot None ≡ Some rule → rule .number ≡ 0 → ⊥
 
 abbrev pub reading : List Slot → ℕ → Result Slot Refusal
 reading slots slot = cond (ltb slot (length slots)) (Ok (getD slots slot None)) (Err OffTheTable)
@@ -58,11 +64,6 @@ trace-after traced trace (Err refusal) = trace
 abbrev pub slot-matches : KindMeaning → ℕ → Slot → Bool
 slot-matches kind subject None = false
 slot-matches kind subject (Some rule) = kind .matches (rule .«word_a») (rule .«word_b») subject
-
--- the same of what read answers
-abbrev pub answer-matches : KindMeaning → ℕ → Result Slot Refusal → Bool
-answer-matches kind subject (Ok slot) = slot-matches kind subject slot
-answer-matches kind subject (Err refusal) = false
 
 -- the first place that passes a test, or the list's length
 abbrev pub first-place : {X : Type 0} → (X → Bool) → List X → ℕ

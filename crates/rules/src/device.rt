@@ -1,21 +1,21 @@
 // A slot device: slots, each empty or taken by a rule of one kind.
 ghost use mathlib.Core.List.{List};
 ghost use mathlib.Core.Path.{_≡_};
-ghost use Prim.Native.Nat.{ℕ, _≤_};
+ghost use Prim.Native.Nat.{ℕ};
 ghost use lib.ListN.{length};
 ghost use Rattle.rules.specs.declared.event.Event.{Event};
-ghost use Rattle.rules.specs.Slots.{Slot, Numbered, reading, writing, erasing, answer, slots-after, trace-after, answer-matches, first-match};
+ghost use Rattle.rules.specs.Slots.{Slot, SlotLaws, reading, writing, erasing, answer, slots-after, trace-after, slot-matches, first-match};
 use crate::kind::Kind;
 use crate::refusal::Refusal;
 use crate::rule::Rule;
 
-// Whether read answered with a rule that matches.
-fn answer_matches<K: Kind>(read: Result<Option<Rule>, Refusal>, subject: u64) -> bool
-    ensures { λ r. ⌜ r ≡ answer-matches (K·Kind .meaning) subject read ⌝ }
+// Whether a slot holds a rule that matches.
+pub fn slot_matches<K: Kind>(slot: Option<Rule>, subject: u64) -> bool
+    ensures { λ r. ⌜ r ≡ slot-matches (K·Kind .meaning) subject slot ⌝ }
 {
-    match read {
-        Ok(Some(rule)) => K::matches(rule.word_a, rule.word_b, subject),
-        _ => false,
+    match slot {
+        Some(rule) => K::matches(rule.word_a, rule.word_b, subject),
+        None => false,
     }
 }
 
@@ -34,9 +34,8 @@ pub trait SlotDevice {
     // the ghost names of the memory that is lent to the device
     ghost lenders: { Self → List ℕ };
 
-    law few: { (d : Self) → length (slots d) ≤ 65535 };
-
-    law numbered: { (d : Self) → Numbered (slots d) };
+    // what each device must prove: a `law` is not proved yet where an impl has a lifetime
+    ghost lawful: { (device : Self) → SlotLaws (slots device) };
 
     fn count(&self) -> u16
         ensures answer { λ r. ⌜ r ≡ length (slots (now (self .entry))) ⌝ };
@@ -58,16 +57,5 @@ pub trait SlotDevice {
 
     // the lowest slot whose rule matches
     fn first_match(&self, subject: u64) -> Option<u16>
-        ensures answer { λ r. ⌜ r ≡ first-match (Kind·Kind .meaning) (slots (now (self .entry))) subject ⌝ }
-    {
-        let count = self.count();
-        let mut slot = 0;
-        while slot < count {
-            if answer_matches::<Self::Kind>(self.read(slot), subject) {
-                return Some(slot);
-            }
-            slot += 1;
-        }
-        None
-    }
+        ensures answer { λ r. ⌜ r ≡ first-match (Kind·Kind .meaning) (slots (now (self .entry))) subject ⌝ };
 }

@@ -6,6 +6,7 @@ mod refusal;
 mod rule;
 
 pub use device::SlotDevice;
+pub use device::slot_matches;
 pub use event::Event;
 pub use kind::Kind;
 pub use refusal::Refusal;

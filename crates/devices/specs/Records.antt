@@ -2,13 +2,14 @@
 use mathlib.Core.List.{List, map}
 use Prim.Native.Nat.{ℕ, min}
 use lib.ListN.{set, take}
-use Rattle.std.specs.declared.result.Result.{Result}
-use Rattle.std.specs.declared.result.Result.the-variants.{Ok, Err}
 use Rattle.rules.specs.declared.rule.Rule.{Rule}
-use Rattle.rules.specs.declared.refusal.Refusal.{Refusal}
 use Rattle.rules.specs.declared.event.Event.{Event}
 use Rattle.rules.specs.declared.event.Event.the-variants.{Write, Erase}
-use Rattle.rules.specs.Slots.{Slot, in-slot, writing, erasing}
+use Rattle.rules.specs.Slots.{Slot, in-slot}
+
+-- what the caller lends
+abbrev pub LentRecords : Type 0
+LentRecords = List Rule
 
 abbrev pub most-slots : ℕ
 most-slots = 480
@@ -24,18 +25,7 @@ bank-count records = min most-slots records
 abbrev pub zero-record : Rule
 zero-record = record { number = 0; priority = 0; action = 0; «word_a» = 0; «word_b» = 0 }
 
--- one record changes, and no other
+-- the caller's records after an event: one changes, and no other
 abbrev pub record-changed : List Rule → Event → List Rule
 record-changed records (Write slot rule) = set records slot rule
 record-changed records (Erase slot) = set records slot zero-record
-
--- the caller's records after a call: a refusal leaves them as they were
-abbrev pub records-after : List Rule → Result Event Refusal → List Rule
-records-after records (Ok event) = record-changed records event
-records-after records (Err refusal) = records
-
-abbrev pub bank-writing : List Rule → ℕ → Rule → Result Event Refusal
-bank-writing records = writing (bank-slots records)
-
-abbrev pub bank-erasing : List Rule → ℕ → Result Event Refusal
-bank-erasing records = erasing (bank-slots records)

@@ -4,14 +4,15 @@ ghost use mathlib.Core.List.{[], _∷_};
 ghost use mathlib.Core.Path.{_≡_};
 ghost use Prim.Native.Nat.{_<_};
 ghost use lib.Dec.{lit≤};
-ghost use lib.ListN.{length, getD, set};
+ghost use lib.ListN.{length, getD};
 ghost use Rattle.std.specs.declared.option.Option.the-variants.{None};
-ghost use Rattle.rules.specs.Slots.{in-slot, answer, slots-after, trace-after};
-ghost use Rattle.rules.proofs.Calls.{first-records-lawful};
-ghost use Rattle.devices.specs.Records.{most-slots, bank-slots, bank-count, bank-writing, bank-erasing, records-after};
+ghost use Rattle.rules.specs.Slots.{Possible, carried-out};
+ghost use Rattle.rules.proofs.Records.{first-records-lawful};
+ghost use Rattle.devices.specs.Records.{LentRecords, most-slots, bank-slots, bank-count, record-changed};
 ghost use Rattle.devices.specs.Traces.{untraced};
 use kinds::Dial;
 use kinds::DialKind;
+use rules::Event;
 use rules::Refusal;
 use rules::Rule;
 use rules::SlotDevice;
@@ -37,6 +38,14 @@ fn bank_count(records: usize) -> u16
 }
 
 impl<'a> RecordBank<'a> {
+    // The caller has the records back, as the device left them, when the device is let go.
+    pub fn over(records: &'a mut [Rule]) -> RecordBank<'a>
+        ensures memory { λ r. ⌜ now (r .records) ≡ now (records .entry) ⌝ }
+        ensures same { λ r. ⌜ name (r .records) ≡ name (records .entry) ⌝ }
+    {
+        RecordBank { records }
+    }
+
     fn at(&self, slot: u16) -> Option<Rule>
         requires { ⌜ slot < length (bank-slots (now (now self .records))) ⌝ }
         ensures { λ r. ⌜ r ≡ getD (bank-slots (now (now (self .entry) .records))) slot None ⌝ }
@@ -44,14 +53,25 @@ impl<'a> RecordBank<'a> {
         self.records[slot as usize].in_slot()
     }
 
-    // Writes one record, that of a rule or an erased one.
-    fn put(&mut self, slot: u16, rule: Rule)
-        requires { ⌜ slot < length (bank-slots (now (now self .records))) ⌝ }
-        ensures slots { λ _. ⌜ bank-slots (now (now (self .exit) .records)) ≡ set (bank-slots (now (now (self .entry) .records))) slot (in-slot rule) ⌝ }
+    // Writes the one record that an event is of.
+    fn store(&mut self, event: Event)
+        requires { ⌜ Possible (length (now (now self .records))) event ⌝ }
+        ensures memory { λ _. ⌜ now (now (self .exit) .records) ≡ record-changed (now (now (self .entry) .records)) event ⌝ }
         ensures same { λ _. ⌜ name (now (self .exit) .records) ≡ name (now (self .entry) .records) ⌝ }
-        ensures memory { λ _. ⌜ now (now (self .exit) .records) ≡ set (now (now (self .entry) .records)) slot rule ⌝ }
     {
-        self.records[slot as usize] = rule;
+        match event {
+            Event::Write(slot, rule) => self.records[slot as usize] = rule,
+            Event::Erase(slot) => self.records[slot as usize] = Rule::ZERO,
+        }
+    }
+
+    fn carry_out(&mut self, event: Event)
+        requires { ⌜ Possible (length (bank-slots (now (now self .records)))) event ⌝ }
+        ensures slots { λ _. ⌜ bank-slots (now (now (self .exit) .records)) ≡ carried-out (bank-slots (now (now (self .entry) .records))) event ⌝ }
+        ensures memory { λ _. ⌜ now (now (self .exit) .records) ≡ record-changed (now (now (self .entry) .records)) event ⌝ }
+        ensures same { λ _. ⌜ name (now (self .exit) .records) ≡ name (now (self .entry) .records) ⌝ }
+    {
+        self.store(event);
     }
 }
 
@@ -63,6 +83,12 @@ pub impl<'a> SlotDevice for RecordBank<'a> as RecordBankSlots {
     ghost trace = { λ bank. 0 };
 
     ghost traced = { untraced };
+
+    ghost Lent = { LentRecords };
+
+    ghost memory = { λ bank. now (bank .records) };
+
+    ghost stored = { record-changed };
 
     ghost lenders = { λ bank. name (bank .records) ∷ [] };
 
@@ -79,34 +105,15 @@ pub impl<'a> SlotDevice for RecordBank<'a> as RecordBankSlots {
         Ok(self.at(slot))
     }
 
-    fn write(&mut self, slot: u16, rule: Rule) -> Result<(), Refusal>
-        ensures answer { λ r. ⌜ r ≡ answer (bank-writing (now (now (self .entry) .records)) slot rule) ⌝ }
-        ensures slots { λ _. ⌜ bank-slots (now (now (self .exit) .records)) ≡ slots-after (bank-slots (now (now (self .entry) .records))) (bank-writing (now (now (self .entry) .records)) slot rule) ⌝ }
-        ensures trace { λ _. ⌜ 0 ≡ trace-after untraced 0 (bank-writing (now (now (self .entry) .records)) slot rule) ⌝ }
-        ensures same { λ _. ⌜ name (now (self .exit) .records) ∷ [] ≡ name (now (self .entry) .records) ∷ [] ⌝ }
-        ensures memory { λ _. ⌜ now (now (self .exit) .records) ≡ records-after (now (now (self .entry) .records)) (bank-writing (now (now (self .entry) .records)) slot rule) ⌝ }
-    {
-        if rule.number == 0 {
-            return Err(Refusal::Mangled);
-        }
-        if slot >= self.count() {
-            return Err(Refusal::OffTheTable);
-        }
-        self.put(slot, rule);
+    fn write(&mut self, slot: u16, rule: Rule) -> Result<(), Refusal> {
+        let event = Event::writing(self.count(), slot, rule)?;
+        self.carry_out(event);
         Ok(())
     }
 
-    fn erase(&mut self, slot: u16) -> Result<(), Refusal>
-        ensures answer { λ r. ⌜ r ≡ answer (bank-erasing (now (now (self .entry) .records)) slot) ⌝ }
-        ensures slots { λ _. ⌜ bank-slots (now (now (self .exit) .records)) ≡ slots-after (bank-slots (now (now (self .entry) .records))) (bank-erasing (now (now (self .entry) .records)) slot) ⌝ }
-        ensures trace { λ _. ⌜ 0 ≡ trace-after untraced 0 (bank-erasing (now (now (self .entry) .records)) slot) ⌝ }
-        ensures same { λ _. ⌜ name (now (self .exit) .records) ∷ [] ≡ name (now (self .entry) .records) ∷ [] ⌝ }
-        ensures memory { λ _. ⌜ now (now (self .exit) .records) ≡ records-after (now (now (self .entry) .records)) (bank-erasing (now (now (self .entry) .records)) slot) ⌝ }
-    {
-        if slot >= self.count() {
-            return Err(Refusal::OffTheTable);
-        }
-        self.put(slot, Rule::ZERO);
+    fn erase(&mut self, slot: u16) -> Result<(), Refusal> {
+        let event = Event::erasing(self.count(), slot)?;
+        self.carry_out(event);
         Ok(())
     }
 

@@ -1,3 +1,3 @@
-pub mod Calls
 pub mod Meeting
 pub mod Places
+pub mod Records

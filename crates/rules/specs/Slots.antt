@@ -2,7 +2,7 @@
 use mathlib.Core.Bool.{Bool, true, false, cond}
 use mathlib.Core.List.{List, [], _∷_}
 use mathlib.Core.Path.{_≡_}
-use Prim.Native.Nat.{ℕ, zero, suc, _≤_}
+use Prim.Native.Nat.{ℕ, zero, suc, _<_, _≤_}
 use lib.Dec.{eqb, ltb}
 use lib.ListN.{length, getD, set}
 use Rattle.std.specs.declared.option.Option.{Option}
@@ -33,15 +33,19 @@ pub record SlotLaws (slots : List Slot) : Type 0 where
 abbrev pub reading : List Slot → ℕ → Result Slot Refusal
 reading slots slot = cond (ltb slot (length slots)) (Ok (getD slots slot None)) (Err OffTheTable)
 
--- What a write and what an erase come to: one event, or a refusal, and of two refusals the one with the smaller number.
+-- What a write and what an erase come to on a device with so many slots: one event, or a refusal, and of two refusals the
+-- one with the smaller number.
 
-abbrev pub erasing : List Slot → ℕ → Result Event Refusal
-erasing slots slot = cond (ltb slot (length slots)) (Ok (Erase slot)) (Err OffTheTable)
+abbrev pub erasing : ℕ → ℕ → Result Event Refusal
+erasing count slot = cond (ltb slot count) (Ok (Erase slot)) (Err OffTheTable)
 
-abbrev pub writing : List Slot → ℕ → Rule → Result Event Refusal
-writing slots slot rule =
-    cond (eqb (rule .number) 0) (Err Mangled)
-    (cond (ltb slot (length slots)) (Ok (Write slot rule)) (Err OffTheTable))
+abbrev pub writing : ℕ → ℕ → Rule → Result Event Refusal
+writing count slot rule = cond (eqb (rule .number) 0) (Err Mangled) (cond (ltb slot count) (Ok (Write slot rule)) (Err OffTheTable))
+
+-- an event that a device with so many slots can carry out
+abbrev pub Possible : ℕ → Event → Type 0
+Possible count (Write slot rule) = (slot < count) × (rule .number ≡ 0 → ⊥)
+Possible count (Erase slot) = slot < count
 
 abbrev pub answer : Result Event Refusal → Result (Unit {0}) Refusal
 answer (Ok event) = Ok tt
@@ -52,14 +56,10 @@ abbrev pub carried-out : List Slot → Event → List Slot
 carried-out slots (Write slot rule) = set slots slot (Some rule)
 carried-out slots (Erase slot) = set slots slot None
 
--- a refusal changes nothing
-abbrev pub slots-after : List Slot → Result Event Refusal → List Slot
-slots-after slots (Ok event) = carried-out slots event
-slots-after slots (Err refusal) = slots
-
-abbrev pub trace-after : (ℕ → Event → ℕ) → ℕ → Result Event Refusal → ℕ
-trace-after traced trace (Ok event) = traced trace event
-trace-after traced trace (Err refusal) = trace
+-- what a call leaves of slots, trace or memory, by what an event makes of them: a refusal changes nothing
+abbrev pub after : {State : Type 0} → (State → Event → State) → State → Result Event Refusal → State
+after step state (Ok event) = step state event
+after step state (Err refusal) = state
 
 abbrev pub slot-matches : KindMeaning → ℕ → Slot → Bool
 slot-matches kind subject None = false

@@ -4,7 +4,7 @@ ghost use mathlib.Core.Path.{_≡_};
 ghost use Prim.Native.Nat.{ℕ};
 ghost use lib.ListN.{length};
 ghost use Rattle.rules.specs.declared.event.Event.{Event};
-ghost use Rattle.rules.specs.Slots.{Slot, SlotLaws, reading, writing, erasing, answer, slots-after, trace-after, slot-matches, first-match};
+ghost use Rattle.rules.specs.Slots.{Slot, SlotLaws, reading, writing, erasing, answer, carried-out, after, slot-matches, first-match};
 use crate::kind::Kind;
 use crate::refusal::Refusal;
 use crate::rule::Rule;
@@ -31,7 +31,14 @@ pub trait SlotDevice {
     // the next trace, from the last one and from what was carried out
     ghost traced: { ℕ → Event → ℕ };
 
-    // the ghost names of the memory that is lent to the device
+    // the memory that is lent to the device, and what a write or an erase makes of it
+    ghost Lent: { Type 0 };
+
+    ghost memory: { Self → Lent };
+
+    ghost stored: { Lent → Event → Lent };
+
+    // the ghost names of the loans, by which a lender knows its memory again
     ghost lenders: { Self → List ℕ };
 
     // what each device must prove: a `law` is not proved yet where an impl has a lifetime
@@ -44,15 +51,17 @@ pub trait SlotDevice {
         ensures answer { λ r. ⌜ r ≡ reading (slots (now (self .entry))) slot ⌝ };
 
     fn write(&mut self, slot: u16, rule: Rule) -> Result<(), Refusal>
-        ensures answer { λ r. ⌜ r ≡ answer (writing (slots (now (self .entry))) slot rule) ⌝ }
-        ensures slots { λ _. ⌜ slots (now (self .exit)) ≡ slots-after (slots (now (self .entry))) (writing (slots (now (self .entry))) slot rule) ⌝ }
-        ensures trace { λ _. ⌜ trace (now (self .exit)) ≡ trace-after traced (trace (now (self .entry))) (writing (slots (now (self .entry))) slot rule) ⌝ }
+        ensures answer { λ r. ⌜ r ≡ answer (writing (length (slots (now (self .entry)))) slot rule) ⌝ }
+        ensures slots { λ _. ⌜ slots (now (self .exit)) ≡ after carried-out (slots (now (self .entry))) (writing (length (slots (now (self .entry)))) slot rule) ⌝ }
+        ensures trace { λ _. ⌜ trace (now (self .exit)) ≡ after traced (trace (now (self .entry))) (writing (length (slots (now (self .entry)))) slot rule) ⌝ }
+        ensures memory { λ _. ⌜ memory (now (self .exit)) ≡ after stored (memory (now (self .entry))) (writing (length (slots (now (self .entry)))) slot rule) ⌝ }
         ensures same { λ _. ⌜ lenders (now (self .exit)) ≡ lenders (now (self .entry)) ⌝ };
 
     fn erase(&mut self, slot: u16) -> Result<(), Refusal>
-        ensures answer { λ r. ⌜ r ≡ answer (erasing (slots (now (self .entry))) slot) ⌝ }
-        ensures slots { λ _. ⌜ slots (now (self .exit)) ≡ slots-after (slots (now (self .entry))) (erasing (slots (now (self .entry))) slot) ⌝ }
-        ensures trace { λ _. ⌜ trace (now (self .exit)) ≡ trace-after traced (trace (now (self .entry))) (erasing (slots (now (self .entry))) slot) ⌝ }
+        ensures answer { λ r. ⌜ r ≡ answer (erasing (length (slots (now (self .entry)))) slot) ⌝ }
+        ensures slots { λ _. ⌜ slots (now (self .exit)) ≡ after carried-out (slots (now (self .entry))) (erasing (length (slots (now (self .entry)))) slot) ⌝ }
+        ensures trace { λ _. ⌜ trace (now (self .exit)) ≡ after traced (trace (now (self .entry))) (erasing (length (slots (now (self .entry)))) slot) ⌝ }
+        ensures memory { λ _. ⌜ memory (now (self .exit)) ≡ after stored (memory (now (self .entry))) (erasing (length (slots (now (self .entry)))) slot) ⌝ }
         ensures same { λ _. ⌜ lenders (now (self .exit)) ≡ lenders (now (self .entry)) ⌝ };
 
     // the lowest slot whose rule matches

@@ -1,23 +1,15 @@
--- What a write and an erase come to where they are not refused, and what stands in slots. Assumes nothing.
+-- What stands in the slots of a device over records. Assumes nothing.
 use mathlib.Core.List.{List, map}
 use mathlib.Core.Logic.{⊎-elim}
 use mathlib.Core.Path.{_≡_, sym, ap, _∙_}
-use Prim.Native.Nat.{ℕ, min, _<_, _≤_}
+use Prim.Native.Nat.{ℕ, min, _≤_}
 use native.Mathlib.Omega.{arith}
 use lib.ListN.{length, getD, take, length-map, length-take}
 use Rattle.std.specs.declared.option.Option.the-variants.{None, Some}
-use Rattle.std.specs.declared.result.Result.the-variants.{Ok}
-use Rattle.std.proofs.shelf.Tests.{cond-true, cond-false, lt-ltb, ne-eqb, eq-eqb, cases-eq, cases-lt}
+use Rattle.std.proofs.shelf.Tests.{cond-true, cond-false, ne-eqb, eq-eqb, cases-eq, cases-lt}
 use Rattle.std.proofs.shelf.Lists.{getD-map, getD-past}
 use Rattle.rules.specs.declared.rule.Rule.{Rule}
-use Rattle.rules.specs.declared.event.Event.the-variants.{Write, Erase}
-use Rattle.rules.specs.Slots.{Slot, SlotLaws, in-slot, erasing, writing}
-
-pub erased : (slots : List Slot) (slot : ℕ) → slot < length slots → erasing slots slot ≡ Ok (Erase slot)
-erased slots slot below = cond-true _ _ _ (lt-ltb slot (length slots) below)
-
-pub written : (slots : List Slot) (slot : ℕ) (rule : Rule) → (rule .number ≡ 0 → ⊥) → slot < length slots → writing slots slot rule ≡ Ok (Write slot rule)
-written slots slot rule numbered below = cond-false _ _ _ (ne-eqb (rule .number) 0 numbered) ∙ cond-true _ _ _ (lt-ltb slot (length slots) below)
+use Rattle.rules.specs.Slots.{SlotLaws, in-slot}
 
 pub in-slot-taken : (rule : Rule) → (rule .number ≡ 0 → ⊥) → in-slot rule ≡ Some rule
 in-slot-taken rule numbered = cond-false _ _ _ (ne-eqb (rule .number) 0 numbered)

@@ -2,20 +2,25 @@
 use mathlib.Core.List.{List, map}
 use mathlib.Core.Logic.{⊎-elim}
 use mathlib.Core.Path.{_≡_, sym, ap, _∙_}
-use Prim.Native.Nat.{ℕ, min, _≤_}
+use Prim.Native.Nat.{ℕ, min, _<_, _≤_}
 use native.Mathlib.Omega.{arith}
 use lib.ListN.{length, getD, take, length-map, length-take}
 use Rattle.std.specs.declared.option.Option.the-variants.{None, Some}
 use Rattle.std.proofs.shelf.Tests.{cond-true, cond-false, ne-eqb, eq-eqb, cases-eq, cases-lt}
+use Rattle.std.proofs.shelf.Counted.{length-map-counting, getD-map-counting}
+use Rattle.std.specs.Iters.{counting}
 use Rattle.std.proofs.shelf.Lists.{getD-map, getD-past}
 use Rattle.rules.specs.declared.rule.Rule.{Rule}
-use Rattle.rules.specs.Slots.{SlotLaws, in-slot}
+use Rattle.rules.specs.Slots.{Slot, SlotLaws, in-slot}
+
+abbrev nothing : Rule
+nothing = record { number = 0; priority = 0; action = 0; «word_a» = 0; «word_b» = 0 }
 
 pub in-slot-taken : (rule : Rule) → (rule .number ≡ 0 → ⊥) → in-slot rule ≡ Some rule
 in-slot-taken rule numbered = cond-false _ _ _ (ne-eqb (rule .number) 0 numbered)
 
 -- what stands for a rule has that rule's number, and it is not 0
-pub in-slot-numbered : (held rule : Rule) → in-slot held ≡ Some rule → rule .number ≡ 0 → ⊥
+in-slot-numbered : (held rule : Rule) → in-slot held ≡ Some rule → rule .number ≡ 0 → ⊥
 in-slot-numbered held rule is none =
     ⊎-elim
     (λ zero-number.
@@ -28,20 +33,26 @@ in-slot-numbered held rule is none =
     numbered (ap (λ (r : Rule). r .number) same ∙ none))
     (cases-eq (held .number) 0)
 
--- every list of records, of which at most 65,535 count, stands for the slots of a device
+-- slots that stand for records are lawful, if they are not too many
+records-lawful : (slots : List Slot) (held : ℕ → Rule) → length slots ≤ 65535 → ((slot : ℕ) → slot < length slots → getD slots slot None ≡ in-slot (held slot)) → SlotLaws slots
+records-lawful slots held few stands = record {
+  few = few;
+  numbered = λ slot rule taken none.
+      ⊎-elim (λ below. in-slot-numbered (held slot) rule (sym (stands slot below) ∙ taken) none)
+      (λ past. let empty = getD-past slots slot None past in let both : _≡_ {A = ℕ} 0 1 = cc in omega arith)
+      (cases-lt slot (length slots));
+}
+
 pub first-records-lawful : (most : ℕ) (records : List Rule) → most ≤ 65535 → SlotLaws (map in-slot (take most records))
 first-records-lawful most records few =
-    let whole : length (map in-slot (take most records)) ≡ min most (length records) = length-map (take most records) in-slot ∙ length-take most records in
-    record {
-      few = omega arith;
-      numbered = λ slot rule taken none.
-          ⊎-elim
-          (λ below.
-          let held = getD-map in-slot (take most records) slot rule None (omega (arith, length-map (take most records) in-slot)) in
-          in-slot-numbered (getD (take most records) slot rule) rule (sym held ∙ taken) none)
-          (λ past.
-          let empty = getD-past (map in-slot (take most records)) slot None past in
-          let both : _≡_ {A = ℕ} 0 1 = cc in
-          omega arith)
-          (cases-lt slot (length (map in-slot (take most records))));
-    }
+    let first = take most records in
+    let whole : length (map in-slot first) ≡ min most (length records) = length-map first in-slot ∙ length-take most records in
+    records-lawful (map in-slot first) (λ slot. getD first slot nothing) (omega arith)
+    (λ slot below. getD-map in-slot first slot nothing None (omega (arith, length-map first in-slot)))
+
+pub counted-records-lawful : (held : ℕ → Rule) (count : ℕ) → count ≤ 65535 → SlotLaws (map (λ slot. in-slot (held slot)) (counting 0 count))
+counted-records-lawful held count few =
+    let stands = λ (slot : ℕ). in-slot (held slot) in
+    let whole = length-map-counting stands 0 count in
+    records-lawful (map stands (counting 0 count)) held (omega arith)
+    (λ slot below. getD-map-counting stands 0 count slot slot None (omega arith) (omega arith))

@@ -61,6 +61,10 @@ abbrev pub after : {State : Type 0} → (State → Event → State) → State �
 after step state (Ok event) = step state event
 after step state (Err refusal) = state
 
+-- the rule of a trace that stays 0, whatever is carried out
+abbrev pub untraced : ℕ → Event → ℕ
+untraced trace event = 0
+
 abbrev pub slot-matches : KindMeaning → ℕ → Slot → Bool
 slot-matches kind subject None = false
 slot-matches kind subject (Some rule) = kind .matches (rule .«word_a») (rule .«word_b») subject

@@ -1,15 +1,17 @@
 -- What stands in the slots of a device over records. Assumes nothing.
-use mathlib.Core.List.{List, map}
+use mathlib.Core.Bool.{cond}
+use mathlib.Core.List.{List, map, _++_}
 use mathlib.Core.Logic.{⊎-elim}
-use mathlib.Core.Path.{_≡_, sym, ap, _∙_}
-use Prim.Native.Nat.{ℕ, min, _<_, _≤_}
+use mathlib.Core.Path.{_≡_, refl, sym, ap, _∙_}
+use Prim.Native.Nat.{ℕ, min, _+_, _-_, _<_, _≤_}
 use native.Mathlib.Omega.{arith}
-use lib.ListN.{length, getD, take, length-map, length-take}
+use lib.ListN.{length, getD, take, length-map, length-take, length-append}
+use lib.Dec.{leb}
 use Rattle.std.specs.declared.option.Option.the-variants.{None, Some}
-use Rattle.std.proofs.shelf.Tests.{cond-true, cond-false, ne-eqb, eq-eqb, cases-eq, cases-lt}
+use Rattle.std.proofs.shelf.Tests.{cond-true, cond-false, ne-eqb, eq-eqb, cases-eq, cases-lt, cond-both, leb-true}
 use Rattle.std.proofs.shelf.Counted.{length-map-counting, getD-map-counting}
 use Rattle.std.specs.Iters.{counting}
-use Rattle.std.proofs.shelf.Lists.{getD-map, getD-past}
+use Rattle.std.proofs.shelf.Lists.{getD-map, getD-past, getD-append-left, getD-append-right}
 use Rattle.rules.specs.declared.rule.Rule.{Rule}
 use Rattle.rules.specs.Slots.{Slot, SlotLaws, in-slot}
 
@@ -56,3 +58,18 @@ counted-records-lawful held count few =
     let whole = length-map-counting stands 0 count in
     records-lawful (map stands (counting 0 count)) held (omega arith)
     (λ slot below. getD-map-counting stands 0 count slot slot None (omega arith) (omega arith))
+
+append-lawful : (first second : List Slot) → SlotLaws first → SlotLaws second → length first + length second ≤ 65535 → SlotLaws (first ++ second)
+append-lawful first second lawful lawful-second few = record {
+  few = omega (arith, length-append first second);
+  numbered = λ slot rule taken none.
+      ⊎-elim (λ below. lawful .numbered slot rule (sym (getD-append-left first second None slot below) ∙ taken) none)
+      (λ past. lawful-second .numbered (slot - length first) rule (sym (getD-append-right first second (length first) slot None refl past) ∙ taken) none)
+      (cases-lt slot (length first));
+}
+
+-- two lists of slots, or the first alone where they are too many
+pub joined-lawful : (first second : List Slot) → SlotLaws first → SlotLaws second → SlotLaws (cond (leb (length first + length second) 65535) (first ++ second) first)
+joined-lawful first second lawful lawful-second =
+    cond-both (leb (length first + length second) 65535) (first ++ second) first SlotLaws
+    (λ fit. append-lawful first second lawful lawful-second (leb-true _ _ fit)) (λ over. lawful)

@@ -1,8 +1,13 @@
 // The words that every part of the exchange shares.
+mod device;
+mod event;
 mod kind;
 mod refusal;
 mod rule;
 
+pub use device::SlotDevice;
+pub use device::slot_matches;
+pub use event::Event;
 pub use kind::Kind;
 pub use refusal::Refusal;
 pub use refusal::RefusalDebug;

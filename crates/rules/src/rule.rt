@@ -1,5 +1,6 @@
 // A rule as callers and devices hold it.
 ghost use mathlib.Core.Path.{_≡_};
+ghost use Rattle.rules.specs.Slots.{in-slot};
 use crate::kind::Kind;
 
 // Number 0 marks an empty slot. A larger priority wins.
@@ -13,6 +14,22 @@ pub struct Rule {
 }
 
 impl Rule {
+    // A record of an empty slot.
+    pub const ZERO: Rule = Rule {
+        number: 0,
+        priority: 0,
+        action: 0,
+        word_a: 0,
+        word_b: 0,
+    };
+
+    // The slot that a record stands for: number 0 is an empty one, whatever else the record holds.
+    pub fn in_slot(self) -> Option<Rule>
+        ensures { λ r. ⌜ r ≡ in-slot self ⌝ }
+    {
+        if self.number == 0 { None } else { Some(self) }
+    }
+
     // Two rules meet whichever of them is named first.
     pub fn meets<K: Kind>(self, other: Rule) -> bool
         ensures answer { λ r. ⌜ r ≡ K·Kind .meaning .meets (self .«word_a») (self .«word_b») (other .«word_a») (other .«word_b») ⌝ }

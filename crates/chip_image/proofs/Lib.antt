@@ -1,0 +1,2 @@
+mod Chips
+mod Headers

@@ -1,0 +1,4 @@
+mod Counts
+mod Firsts
+mod Joins
+mod Outcomes

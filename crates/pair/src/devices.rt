@@ -1,0 +1,85 @@
+// Two slot devices of one kind as one: the first's slots, then the second's.
+ghost use mathlib.Core.List.{_++_};
+ghost use lib.ListN.{length};
+ghost use Rattle.rules.specs.Slots.{untraced};
+ghost use Rattle.rules.proofs.Records.{joined-lawful};
+ghost use Rattle.pair.specs.Joined.{joined, BothLent, both-stored};
+use crate::half::Half;
+use crate::half::both_fit;
+use crate::half::half_of;
+use rules::Refusal;
+use rules::Rule;
+use rules::SlotDevice;
+
+// If the two have more than 65,535 slots together, the pair is the first alone, and the second is only asked for its count.
+#[derive(Drop)]
+pub struct Pair<D, E> {
+    pub first: D,
+    pub second: E,
+}
+
+pub impl<D: SlotDevice, E: SlotDevice<Kind = D::Kind>> SlotDevice for Pair<D, E> as PairSlots {
+    type Kind = D::Kind;
+
+    ghost slots = { λ pair. joined (D·SlotDevice .slots (pair .first)) (E·SlotDevice .slots (pair .second)) };
+
+    // A rule of a trace knows no count, so it cannot tell whose trace a slot belongs to.
+    ghost trace = { λ pair. 0 };
+
+    ghost traced = { untraced };
+
+    ghost Lent = { BothLent (D·SlotDevice .Lent) (E·SlotDevice .Lent) };
+
+    ghost memory = { λ pair. record { split = length (D·SlotDevice .slots (pair .first)); first = D·SlotDevice .memory (pair .first); second = E·SlotDevice .memory (pair .second) } };
+
+    ghost stored = { both-stored (D·SlotDevice .stored) (E·SlotDevice .stored) };
+
+    ghost lenders = { λ pair. D·SlotDevice .lenders (pair .first) ++ E·SlotDevice .lenders (pair .second) };
+
+    ghost lawful = { λ pair. joined-lawful _ _ (D·SlotDevice .lawful (pair .first)) (E·SlotDevice .lawful (pair .second)) };
+
+    fn count(&self) -> u16 {
+        let first = self.first.count();
+        let second = self.second.count();
+        if both_fit(first, second) {
+            first + second
+        } else {
+            first
+        }
+    }
+
+    fn read(&self, slot: u16) -> Result<Option<Rule>, Refusal> {
+        match half_of(self.first.count(), self.second.count(), slot) {
+            Half::First(slot) => self.first.read(slot),
+            Half::Second(slot) => self.second.read(slot),
+        }
+    }
+
+    fn write(&mut self, slot: u16, rule: Rule) -> Result<(), Refusal> {
+        match half_of(self.first.count(), self.second.count(), slot) {
+            Half::First(slot) => self.first.write(slot, rule),
+            Half::Second(slot) => self.second.write(slot, rule),
+        }
+    }
+
+    fn erase(&mut self, slot: u16) -> Result<(), Refusal> {
+        match half_of(self.first.count(), self.second.count(), slot) {
+            Half::First(slot) => self.first.erase(slot),
+            Half::Second(slot) => self.second.erase(slot),
+        }
+    }
+
+    fn first_match(&self, subject: u64) -> Option<u16> {
+        let first = self.first.count();
+        if let Some(slot) = self.first.first_match(subject) {
+            return Some(slot);
+        }
+        if !both_fit(first, self.second.count()) {
+            return None;
+        }
+        match self.second.first_match(subject) {
+            Some(slot) => Some(first + slot),
+            None => None,
+        }
+    }
+}

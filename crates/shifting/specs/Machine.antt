@@ -1,0 +1,267 @@
+-- The machine: what each call on a board answers, the single writes and erases that it makes, and the state that it leaves.
+-- Assumes nothing.
+use mathlib.Core.Bool.{Bool, true, false, not, cond, _&&_, _||_}
+use mathlib.Core.List.{List, [], _∷_, reverse}
+use Prim.Native.Nat.{ℕ, zero, suc, _+_, _-_}
+use lib.Dec.{eqb, ltb}
+use lib.ListN.{length, getD, take, drop}
+use Rattle.std.specs.declared.option.Option.{Option}
+use Rattle.std.specs.declared.option.Option.the-variants.{None, Some}
+use Rattle.rules.specs.declared.rule.Rule.{Rule}
+use Rattle.rules.specs.declared.event.Event.{Event}
+use Rattle.rules.specs.declared.event.Event.the-variants.{Write, Erase}
+use Rattle.rules.specs.declared.refusal.Refusal.{Refusal}
+use Rattle.rules.specs.declared.refusal.Refusal.the-variants.{Busy, Mangled, Known, Tied, Crossed, NoSlot, Unknown, Misdialled, Foreign, RunOut}
+use Rattle.rules.specs.Kinds.{KindMeaning}
+use Rattle.shifting.specs.Chains.{scan}
+use Rattle.shifting.specs.Slots.{Slot, at, carried-out, all-carried-out, tied, crossed, no-slot, jump-chain, first-match}
+
+-- what a ticket names: the board, the number of the rule, and the length of its chain
+pub record Ticket : Type 0 where
+  pub board : ℕ
+  pub rule : ℕ
+  pub length : ℕ
+
+pub data Call : Type 0 where
+  add : Rule → Call
+  step complete withdraw : Ticket → Call
+  drop-rule : (number : ℕ) → Call
+  change-action : (number action : ℕ) → Call
+  look-up : (subject : ℕ) → Call
+
+pub data Answer : Type 0 where
+  -- an add
+  opened : Ticket → Answer
+  -- a step: the writes left; a complete: the announced count; a withdraw: 1 if the new rule is in force, otherwise 0
+  counted : ℕ → Answer
+  -- a drop or a change
+  done : Answer
+  -- a look-up: number and action, or none
+  found : Option (ℕ × ℕ) → Answer
+  refused : Refusal → Answer
+
+-- an open add
+pub record Job : Type 0 where
+  pub rule : Rule
+  pub chain : List ℕ
+  -- how many of its writes are made
+  pub made : ℕ
+
+pub record State : Type 0 where
+  pub slots : List Slot
+  pub trace : ℕ
+  -- the rules in force: each from its add's last write until it is dropped, with the action last given to it
+  pub rules : List Rule
+  pub job : Option Job
+
+-- what does not change: the kind of rule, the device's rule for its next trace, and the board's number
+pub record Fixed : Type 0 where
+  pub kind : KindMeaning
+  pub traced : ℕ → Event → ℕ
+  pub board : ℕ
+
+abbrev pub all-traced : (ℕ → Event → ℕ) → ℕ → List Event → ℕ
+all-traced traced trace [] = trace
+all-traced traced trace (event ∷ events) = all-traced traced (traced trace event) events
+
+-- Opening erases every slot of the device once, from slot 0 up.
+
+abbrev pub erases : ℕ → ℕ → List Event
+erases slot zero = []
+erases slot (suc count) = Erase slot ∷ erases (suc slot) count
+
+abbrev pub cleared : Fixed → List Slot → ℕ → State
+cleared fixed slots trace =
+    let events = erases 0 (length slots) in
+    record { slots = all-carried-out slots events; trace = all-traced (fixed .traced) trace events; rules = []; job = None }
+
+-- The writes of an add go from the chain's end.
+
+-- the rule in a taken slot
+abbrev pub held : Slot → Rule
+held None = record { number = 0; priority = 0; action = 0; «word_a» = 0; «word_b» = 0 }
+held (Some rule) = rule
+
+-- what a slot of the chain receives: the rule in the chain's slot before it, and in its first slot the new rule
+abbrev pub received : List Slot → Rule → List ℕ → Rule
+received slots new [] = new
+received slots new (before ∷ earlier) = held (at slots before)
+
+-- the writes to these slots of a chain, which are named from its end
+abbrev pub writes : List Slot → Rule → List ℕ → List Event
+writes slots new [] = []
+writes slots new (slot ∷ earlier) =
+    let event = Write slot (received slots new earlier) in
+    event ∷ writes (carried-out slots event) new earlier
+
+-- the slots of the chain that are not yet written, from its end
+abbrev pub unwritten : Job → List ℕ
+unwritten job = drop (job .made) (reverse (job .chain))
+
+-- phase written: the ticket is open and no write is left
+abbrev pub written : Job → Bool
+written job = eqb (job .made) (length (job .chain))
+
+-- some writes are made, but not all
+abbrev pub half-way : Job → Bool
+half-way job = ltb 0 (job .made) && ltb (job .made) (length (job .chain))
+
+abbrev pub last-written : Job → ℕ
+last-written job = getD (reverse (job .chain)) (job .made - 1) 0
+
+-- Rules in force.
+
+abbrev pub number-in : ℕ → List Rule → Bool
+number-in number [] = false
+number-in number (rule ∷ rules) = eqb (rule .number) number || number-in number rules
+
+abbrev pub without : ℕ → List Rule → List Rule
+without number [] = []
+without number (rule ∷ rules) = cond (eqb (rule .number) number) (without number rules) (rule ∷ without number rules)
+
+abbrev pub with-action : ℕ → Rule → Rule
+with-action action rule =
+    record { number = rule .number; priority = rule .priority; action = action; «word_a» = rule .«word_a»; «word_b» = rule .«word_b» }
+
+abbrev pub changed : ℕ → ℕ → List Rule → List Rule
+changed number action [] = []
+changed number action (rule ∷ rules) = cond (eqb (rule .number) number) (with-action action rule) rule ∷ changed number action rules
+
+-- Each call: its answer, its writes and erases, and the rules and the open add after it.
+-- Of several refusals the one with the smallest number is given, so they are tried in that order.
+
+pub record Outcome : Type 0 where
+  pub answer : Answer
+  pub events : List Event
+  pub rules : List Rule
+  pub job : Option Job
+
+abbrev pub has-number : ℕ → Slot → Bool
+has-number number None = false
+has-number number (Some rule) = eqb (rule .number) number
+
+-- the number and action that a look-up tells of a slot
+abbrev pub told : Slot → Option (ℕ × ℕ)
+told None = None
+told (Some rule) = Some (rule .number, rule .action)
+
+module _ (fixed : Fixed) (state : State) where
+  abbrev pub refuse : Refusal → Outcome
+  refuse refusal = record { answer = refused refusal; events = []; rules = state .rules; job = state .job }
+
+  abbrev pub when-idle : Option Job → Outcome → Outcome
+  when-idle None outcome = outcome
+  when-idle (Some job) outcome = refuse Busy
+
+  -- any ticket that names the open add is good
+  abbrev pub names : Ticket → Job → Bool
+  names ticket job =
+      eqb (ticket .board) (fixed .board) && (eqb (ticket .rule) (job .rule .number) && eqb (ticket .length) (length (job .chain)))
+
+  abbrev pub when-named : Ticket → Option Job → (Job → Outcome) → Outcome
+  when-named ticket None outcome = refuse Foreign
+  when-named ticket (Some job) outcome = cond (names ticket job) (outcome job) (refuse Foreign)
+
+  abbrev pub open-add : Rule → Outcome
+  open-add new =
+      let chain = jump-chain (fixed .kind) (state .slots) new in
+      record {
+        answer = opened (record { board = fixed .board; rule = new .number; length = length chain });
+        events = [];
+        rules = state .rules;
+        job = Some (record { rule = new; chain = chain; made = 0 });
+      }
+
+  abbrev pub try-add : Rule → Outcome
+  try-add new =
+      cond (eqb (new .number) 0 || not (fixed .kind .well-formed (new .«word_a») (new .«word_b»))) (refuse Mangled)
+      (cond (number-in (new .number) (state .rules)) (refuse Known)
+      (cond (tied (fixed .kind) (state .slots) new) (refuse Tied)
+      (cond (crossed (fixed .kind) (state .slots) new) (refuse Crossed)
+      (cond (no-slot (fixed .kind) (state .slots) new) (refuse NoSlot)
+      (open-add new)))))
+
+  abbrev pub make-one : Job → Outcome
+  make-one job =
+      let further : Job = record { rule = job .rule; chain = job .chain; made = suc (job .made) } in
+      record {
+        answer = counted (length (job .chain) - suc (job .made));
+        events = take 1 (writes (state .slots) (job .rule) (unwritten job));
+        rules = cond (written further) (job .rule ∷ state .rules) (state .rules);
+        job = Some further;
+      }
+
+  abbrev pub make-all : Job → Outcome
+  make-all job =
+      record {
+        answer = counted (length (job .chain));
+        events = writes (state .slots) (job .rule) (unwritten job);
+        rules = cond (written job) (state .rules) (job .rule ∷ state .rules);
+        job = None;
+      }
+
+  abbrev pub take-back : Job → Outcome
+  take-back job =
+      record {
+        answer = counted (cond (written job) 1 0);
+        events = cond (half-way job) (Erase (last-written job) ∷ []) [];
+        rules = state .rules;
+        job = None;
+      }
+
+  -- the slot of the rule with this number, or the count of slots
+  abbrev pub place : ℕ → ℕ
+  place number = scan (λ i. has-number number (at (state .slots) i)) 0 (length (state .slots))
+
+  abbrev pub when-standing : ℕ → Outcome → Outcome
+  when-standing number outcome =
+      cond (eqb number 0 || not (ltb (place number) (length (state .slots)))) (refuse Unknown) outcome
+
+  abbrev pub outcome : Call → Outcome
+  outcome (add new) = when-idle (state .job) (try-add new)
+  outcome (step ticket) = when-named ticket (state .job) (λ job. cond (written job) (refuse RunOut) (make-one job))
+  outcome (complete ticket) = when-named ticket (state .job) make-all
+  outcome (withdraw ticket) = when-named ticket (state .job) take-back
+  outcome (drop-rule number) =
+      when-idle (state .job)
+      (when-standing number
+      (record { answer = done; events = Erase (place number) ∷ []; rules = without number (state .rules); job = None }))
+  outcome (change-action number action) =
+      when-idle (state .job)
+      (when-standing number
+      (record {
+        answer = done;
+        events = Write (place number) (with-action action (held (at (state .slots) (place number)))) ∷ [];
+        rules = changed number action (state .rules);
+        job = None;
+      }))
+  outcome (look-up subject) =
+      cond (fixed .kind .well-formed-subject subject)
+      (record { answer = found (told (first-match (fixed .kind) (state .slots) subject)); events = []; rules = state .rules; job = state .job })
+      (refuse Misdialled)
+
+-- A turn of the machine: the events are carried out in order.
+
+pub record Turn : Type 0 where
+  pub answer : Answer
+  pub events : List Event
+  pub next : State
+
+abbrev pub turn : Fixed → State → Call → Turn
+turn fixed state call =
+    let made = outcome fixed state call in
+    record {
+      answer = made .answer;
+      events = made .events;
+      next = record {
+        slots = all-carried-out (state .slots) (made .events);
+        trace = all-traced (fixed .traced) (state .trace) (made .events);
+        rules = made .rules;
+        job = made .job;
+      };
+    }
+
+-- the state after a list of calls
+abbrev pub after : Fixed → State → List Call → State
+after fixed state [] = state
+after fixed state (call ∷ calls) = after fixed (turn fixed state call .next) calls

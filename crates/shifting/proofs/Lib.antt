@@ -4,3 +4,7 @@ pub mod Reading
 pub mod Order
 pub mod Settled
 pub mod Spans
+pub mod Answering
+pub mod Progress
+pub mod Renewing
+pub mod Sound

@@ -53,6 +53,11 @@ abbrev pub All-sized : List Call → Type 0
 All-sized [] = Unit {0}
 All-sized (call ∷ calls) = Sized call × All-sized calls
 
+-- 1 while an open add, with so many more writes made, has made some of its writes but not all
+abbrev pub copies : Option Job → ℕ → ℕ
+copies None more = 0
+copies (Some job) more = cond (half-way (record { rule = job .rule; chain = job .chain; made = job .made + more })) 1 0
+
 module _ (fixed : Fixed) where
   -- a complete or a withdraw that takes its ticket
   abbrev pub Takes-ticket : State → Call → Type 0
@@ -116,11 +121,6 @@ module _ (fixed : Fixed) where
 
     abbrev pub rules-at : ℕ → List Rule
     rules-at some = cond (ltb some (length (turn fixed state call .events))) (state .rules) (turn fixed state call .next .rules)
-
-    -- 1 while an open add has made some of its writes but not all
-    abbrev pub copies : Option Job → ℕ → ℕ
-    copies None more = 0
-    copies (Some job) more = cond (half-way (record { rule = job .rule; chain = job .chain; made = job .made + more })) 1 0
 
     abbrev pub copies-at : ℕ → ℕ
     copies-at some = cond (ltb some (length (turn fixed state call .events))) (copies (state .job) some) (copies (turn fixed state call .next .job) 0)

@@ -8,3 +8,6 @@ pub mod Answering
 pub mod Progress
 pub mod Renewing
 pub mod Sound
+pub mod Carrying
+pub mod Refusing
+pub mod Lawful

@@ -217,24 +217,25 @@ module _ (fixed : Fixed) (state : State) where
   when-standing number outcome =
       cond (eqb number 0 || not (ltb (place number) (length (state .slots)))) (refuse Unknown) outcome
 
+  abbrev pub erase-rule : ℕ → Outcome
+  erase-rule number = record { answer = done; events = Erase (place number) ∷ []; rules = without number (state .rules); job = None }
+
+  abbrev pub rewrite-rule : ℕ → ℕ → Outcome
+  rewrite-rule number action =
+      record {
+        answer = done;
+        events = Write (place number) (with-action action (held (at (state .slots) (place number)))) ∷ [];
+        rules = changed number action (state .rules);
+        job = None;
+      }
+
   abbrev pub outcome : Call → Outcome
   outcome (add new) = when-idle (state .job) (try-add new)
   outcome (step ticket) = when-named ticket (state .job) (λ job. cond (written job) (refuse RunOut) (make-one job))
   outcome (complete ticket) = when-named ticket (state .job) make-all
   outcome (withdraw ticket) = when-named ticket (state .job) take-back
-  outcome (drop-rule number) =
-      when-idle (state .job)
-      (when-standing number
-      (record { answer = done; events = Erase (place number) ∷ []; rules = without number (state .rules); job = None }))
-  outcome (change-action number action) =
-      when-idle (state .job)
-      (when-standing number
-      (record {
-        answer = done;
-        events = Write (place number) (with-action action (held (at (state .slots) (place number)))) ∷ [];
-        rules = changed number action (state .rules);
-        job = None;
-      }))
+  outcome (drop-rule number) = when-idle (state .job) (when-standing number (erase-rule number))
+  outcome (change-action number action) = when-idle (state .job) (when-standing number (rewrite-rule number action))
   outcome (look-up subject) =
       cond (fixed .kind .well-formed-subject subject)
       (record { answer = found (told (first-match (fixed .kind) (state .slots) subject)); events = []; rules = state .rules; job = state .job })

@@ -1,0 +1,149 @@
+-- The six parts of the law, of every call of every run. Assumes nothing.
+use mathlib.Core.Path.{_≡_, refl, ap, sym, subst, _∙_}
+use mathlib.Core.Bool.{Bool, true, false, cond}
+use mathlib.Core.List.{List, [], _∷_, _++_}
+use mathlib.Core.Logic.{_⊎_, inl, inr, ⊎-elim}
+use Prim.Native.Nat.{ℕ, zero, suc, _+_, _≤_, _<_}
+use native.Mathlib.Omega.{arith}
+use lib.Dec.{ltb}
+use lib.ListN.{length, take}
+use Rattle.std.specs.declared.option.Option.{Option}
+use Rattle.std.specs.declared.option.Option.the-variants.{None, Some}
+use Rattle.std.proofs.shelf.Tests.{cond-both, ltb-true, ltb-false}
+use Rattle.std.proofs.shelf.Lists.{take-all}
+use Rattle.rules.specs.declared.rule.Rule.{Rule}
+use Rattle.rules.specs.declared.event.Event.{Event}
+use Rattle.rules.specs.declared.refusal.Refusal.{Refusal}
+use Rattle.rules.specs.declared.refusal.Refusal.the-variants.{Busy, Unknown, Foreign, RunOut, Misdialled}
+use Rattle.rules.specs.Kinds.{KindMeaning, KindLaws}
+use Rattle.shifting.specs.Slots.{Slot, all-carried-out, jump-chain, first-match}
+use Rattle.shifting.specs.Machine.{Ticket, Call, add, step, complete, withdraw, drop-rule, change-action, look-up, Answer, opened, counted, done, found, refused, Job, State, Fixed, Outcome}
+use Rattle.shifting.specs.Machine.{refuse, when-idle, names, when-named, when-standing, erase-rule, rewrite-rule, open-add, try-add, make-one, make-all, take-back, written, told, outcome, turn, after, cleared}
+use Rattle.shifting.specs.Law.{Sized, LawOfRuns, Lawful, Announced, Answered, ByEvents, slots-at, rules-at, copies-at, copies}
+use Rattle.shifting.proofs.Settled.{Settled}
+use Rattle.shifting.proofs.Progress.{Good}
+use Rattle.shifting.proofs.Answering.{first-match-answers, only-answer}
+use Rattle.shifting.proofs.Spans.{jump-shortest-chain}
+use Rattle.shifting.proofs.Sound.{Opened, Phase, Sound, phase-good, call-step, sound-after, cleared-sound}
+use Rattle.shifting.proofs.Carrying.{refused-counted, one-write, carried-through}
+use Rattle.shifting.proofs.Refusing.{by-idle, by-add, refuses-exactly, opens}
+
+done-refused : {X : Type 0} {refusal : Refusal} → done ≡ refused refusal → X
+done-refused same = absurd (let z : _≡_ {A = ℕ} 0 1 = cc in omega arith)
+
+module _ (fixed : Fixed) (laws : KindLaws (fixed .kind)) (state : State) (sound : Sound fixed laws state) where
+  -- inside a call and at its end
+  call-good : (call : Call) → Sized call → (some : ℕ) → Good (fixed .kind) (slots-at fixed state call some) (rules-at fixed state call some) (copies-at fixed state call some)
+  call-good call sized some =
+      let made = call-step fixed laws state call sized sound in
+      let events = turn fixed state call .events in
+      by-test (ltb some (length events))
+      (λ inside. made .inside some (ltb-true some (length events) inside))
+      (λ end.
+      subst (λ (all : List Event). Good (fixed .kind) (all-carried-out (state .slots) all) (turn fixed state call .next .rules) (copies (turn fixed state call .next .job) 0))
+      (sym (take-all some events (ltb-false some (length events) end)))
+      (phase-good fixed laws (all-carried-out (state .slots) events) (turn fixed state call .next .rules) (turn fixed state call .next .job) (made .leaves)))
+    where
+      by-test : (test : Bool) {slots : List Slot} {rules more : List Rule} {copies less : ℕ} → (test ≡ true → Good (fixed .kind) slots rules copies) → (test ≡ false → Good (fixed .kind) slots more less)
+          → Good (fixed .kind) slots (cond test rules more) (cond test copies less)
+      by-test true before end = before refl
+      by-test false before end = end refl
+
+  announces : (call : Call) (new : Rule) (ticket : Ticket) → call ≡ add new → turn fixed state call .answer ≡ opened ticket → Announced fixed state call new ticket
+  announces call new ticket is-add =
+      subst (λ one. turn fixed state one .answer ≡ opened ticket → Announced fixed state one new ticket) (sym is-add)
+      (λ answer.
+      let how = opens fixed laws state new ticket answer in
+      let chain = jump-chain (fixed .kind) (state .slots) new in
+      let shortest = jump-shortest-chain (fixed .kind) laws (state .slots) new (how .straight) (how .has-slot) in
+      let job : Job = record { rule = new; chain = chain; made = 0 } in
+      record {
+        chain = chain;
+        downward = shortest .0;
+        announced = how .announced;
+        shortest = λ other downward. let least = shortest .1 other downward in omega (arith, how .announced);
+        carried-through = λ between last stays carries.
+            omega (arith, how .announced, carried-through fixed between (turn fixed state (add new) .next) job (how .next-job) (omega arith) last stays carries);
+      })
+
+  idle-settled : state .job ≡ None → Settled (fixed .kind) (state .slots) (state .rules)
+  idle-settled idle = subst (Phase fixed laws (state .slots) (state .rules)) idle sound
+
+  -- what holds of an outcome holds of a call, if it holds of the refusals too
+
+  by-standing : (P : Outcome → Type 0) (number : ℕ) (made : Outcome) → P (refuse fixed state Unknown) → P made → P (when-standing fixed state number made)
+  by-standing P number made unknown standing = cond-both _ _ _ P (λ _. unknown) (λ _. standing)
+
+  by-name : (P : Outcome → Type 0) (ticket : Ticket) (made : Job → Outcome) → P (refuse fixed state Foreign) → ((job : Job) → Opened fixed laws (state .slots) (state .rules) job → P (made job))
+      → (job : Option Job) → Phase fixed laws (state .slots) (state .rules) job → P (when-named fixed state ticket job made)
+  by-name P ticket made foreign named None phase = foreign
+  by-name P ticket made foreign named (Some job) phase = cond-both (names fixed state ticket job) (made job) (refuse fixed state Foreign) P (λ _. named job phase) (λ _. foreign)
+
+  abbrev NoEvent : Outcome → Type 0
+  NoEvent made = made .events ≡ []
+
+  add-quiet : (new : Rule) → outcome fixed state (add new) .events ≡ []
+  add-quiet new =
+      by-idle fixed state NoEvent (try-add fixed state new) refl (by-add fixed laws state new NoEvent (λ why. refl) (λ straight has-slot. refl)) (state .job)
+
+  look-up-quiet : (subject : ℕ) → outcome fixed state (look-up subject) .events ≡ []
+  look-up-quiet subject = cond-both _ _ _ (λ (made : Outcome). made .events ≡ []) (λ _. refl) (λ _. refl)
+
+  -- a refusal has no event
+  abbrev Quiet : Outcome → Type 0
+  Quiet made = (why : Refusal) → made .answer ≡ refused why → made .events ≡ []
+
+  standing-quiet : (number : ℕ) (made : Outcome) → Quiet made → Quiet (when-idle fixed state (state .job) (when-standing fixed state number made))
+  standing-quiet number made silent =
+      by-idle fixed state Quiet (when-standing fixed state number made) (λ _ _. refl) (by-standing Quiet number made (λ _ _. refl) silent) (state .job)
+
+  quiet : (call : Call) → Quiet (outcome fixed state call)
+  quiet (add new) why is = add-quiet new
+  quiet (step ticket) why is =
+      by-name Quiet ticket (λ job. cond (written job) (refuse fixed state RunOut) (make-one fixed state job)) (λ _ _. refl)
+      (λ job phase. cond-both (written job) (refuse fixed state RunOut) (make-one fixed state job) Quiet (λ _ _ _. refl) (λ _ _ same. refused-counted (sym same)))
+      (state .job) sound why is
+  quiet (complete ticket) why is =
+      by-name Quiet ticket (make-all fixed state) (λ _ _. refl) (λ job phase _ same. refused-counted (sym same)) (state .job) sound why is
+  quiet (withdraw ticket) why is =
+      by-name Quiet ticket (take-back fixed state) (λ _ _. refl) (λ job phase _ same. refused-counted (sym same)) (state .job) sound why is
+  quiet (drop-rule number) why is = standing-quiet number (erase-rule fixed state number) (λ _ same. done-refused same) why is
+  quiet (change-action number action) why is = standing-quiet number (rewrite-rule fixed state number action) (λ _ same. done-refused same) why is
+  quiet (look-up subject) why is = look-up-quiet subject
+
+  -- a step that is not refused has one event
+  abbrev Single : Outcome → Type 0
+  Single made = (n : ℕ) → made .answer ≡ counted n → length (made .events) ≡ 1
+
+  step-single : (ticket : Ticket) → Single (outcome fixed state (step ticket))
+  step-single ticket =
+      by-name Single ticket (λ job. cond (written job) (refuse fixed state RunOut) (make-one fixed state job)) (λ _ same. refused-counted same)
+      (λ job phase.
+      cond-both (written job) (refuse fixed state RunOut) (make-one fixed state job) Single (λ _ _ same. refused-counted same) (λ more _ _. one-write fixed state job (phase .short) more))
+      (state .job) sound
+
+  pub lawful : (call : Call) → Sized call → Lawful fixed state call
+  lawful call sized =
+      record {
+        right-order = λ some. call-good call sized some .stocked .right;
+        answered = λ some subject word.
+            let good = call-good call sized some in
+            let rules = rules-at fixed state call some in
+            let answers = first-match-answers (fixed .kind) laws rules (good .ruled) subject word (slots-at fixed state call some) (good .stocked) in
+            record { answers = answers; only = λ other is. only-answer (fixed .kind) laws rules (good .ruled) subject word _ other answers is };
+        announces = announces call;
+        refuses-exactly = λ new idle fresh. refuses-exactly fixed laws state new idle (idle-settled idle) fresh;
+        counts = λ some. call-good call sized some .count;
+        by-events = record {
+          slots = refl;
+          trace = refl;
+          refusal-none = quiet call;
+          add-none = λ new is-add. subst (λ one. turn fixed state one .events ≡ []) (sym is-add) (add-quiet new);
+          look-up-none = λ subject is-look-up. subst (λ one. turn fixed state one .events ≡ []) (sym is-look-up) (look-up-quiet subject);
+          step-one = λ ticket n is-step. subst (λ one. turn fixed state one .answer ≡ counted n → length (turn fixed state one .events) ≡ 1) (sym is-step) (step-single ticket n);
+        };
+      }
+
+pub law-of-runs : LawOfRuns
+law-of-runs fixed laws slots trace calls sized call sized-call =
+    lawful fixed laws (after fixed (cleared fixed slots trace) calls) (sound-after fixed laws calls (cleared fixed slots trace) sized (cleared-sound fixed laws slots trace)) call sized-call

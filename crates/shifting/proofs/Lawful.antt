@@ -17,16 +17,17 @@ use Rattle.rules.specs.declared.refusal.Refusal.{Refusal}
 use Rattle.rules.specs.declared.refusal.Refusal.the-variants.{Busy, Unknown, Foreign, RunOut, Misdialled}
 use Rattle.rules.specs.Kinds.{KindMeaning, KindLaws}
 use Rattle.shifting.specs.Slots.{Slot, all-carried-out, jump-chain, first-match}
-use Rattle.shifting.specs.Machine.{Ticket, Call, add, step, complete, withdraw, drop-rule, change-action, look-up, Answer, opened, counted, done, found, refused, Job, State, Fixed, Outcome}
-use Rattle.shifting.specs.Machine.{refuse, when-idle, names, when-named, when-standing, erase-rule, rewrite-rule, open-add, try-add, make-one, make-all, take-back, written, told, outcome, turn, after, cleared}
-use Rattle.shifting.specs.Law.{Sized, LawOfRuns, Lawful, Announced, Answered, ByEvents, slots-at, rules-at, copies-at, copies}
+use Rattle.shifting.specs.Machine.{Ticket, Call, add, step, complete, withdraw, drop-rule, change-action, look-up, Answer, opened, counted, done, found, refused, Job, State, Fixed, Turn}
+use Rattle.shifting.specs.Machine.{refuse, when-idle, names, when-named, when-standing, erase-rule, rewrite-rule, open-add, try-add, make-one, make-all, take-back, written, told, turn, after, cleared}
+use Rattle.shifting.specs.Law.{Sized, All-sized, LawOfRuns, Lawful, Announced, Answered, ByEvents, slots-at, rules-at, copies-at, copies}
 use Rattle.shifting.proofs.Settled.{Settled}
 use Rattle.shifting.proofs.Progress.{Good}
 use Rattle.shifting.proofs.Answering.{first-match-answers, only-answer}
 use Rattle.shifting.proofs.Spans.{jump-shortest-chain}
 use Rattle.shifting.proofs.Sound.{Opened, Phase, Sound, phase-good, call-step, sound-after, cleared-sound}
 use Rattle.shifting.proofs.Carrying.{refused-counted, one-write, carried-through}
-use Rattle.shifting.proofs.Refusing.{by-idle, by-add, refuses-exactly, opens}
+use Rattle.shifting.proofs.Refusing.{refuses-exactly, opens}
+use Rattle.shifting.proofs.Turns.{by-idle, by-named, by-standing, by-step, by-add, slots-by-events, trace-by-events}
 
 done-refused : {X : Type 0} {refusal : Refusal} → done ≡ refused refusal → X
 done-refused same = absurd (let z : _≡_ {A = ℕ} 0 1 = cc in omega arith)
@@ -69,58 +70,48 @@ module _ (fixed : Fixed) (laws : KindLaws (fixed .kind)) (state : State) (sound 
   idle-settled : state .job ≡ None → Settled (fixed .kind) (state .slots) (state .rules)
   idle-settled idle = subst (Phase fixed laws (state .slots) (state .rules)) idle sound
 
-  -- what holds of an outcome holds of a call, if it holds of the refusals too
+  opened-job : (job : Job) → state .job ≡ Some job → Opened fixed laws (state .slots) (state .rules) job
+  opened-job job is = subst (Phase fixed laws (state .slots) (state .rules)) is sound
 
-  by-standing : (P : Outcome → Type 0) (number : ℕ) (made : Outcome) → P (refuse fixed state Unknown) → P made → P (when-standing fixed state number made)
-  by-standing P number made unknown standing = cond-both _ _ _ P (λ _. unknown) (λ _. standing)
-
-  by-name : (P : Outcome → Type 0) (ticket : Ticket) (made : Job → Outcome) → P (refuse fixed state Foreign) → ((job : Job) → Opened fixed laws (state .slots) (state .rules) job → P (made job))
-      → (job : Option Job) → Phase fixed laws (state .slots) (state .rules) job → P (when-named fixed state ticket job made)
-  by-name P ticket made foreign named None phase = foreign
-  by-name P ticket made foreign named (Some job) phase = cond-both (names fixed state ticket job) (made job) (refuse fixed state Foreign) P (λ _. named job phase) (λ _. foreign)
-
-  abbrev NoEvent : Outcome → Type 0
+  abbrev NoEvent : Turn → Type 0
   NoEvent made = made .events ≡ []
 
-  add-quiet : (new : Rule) → outcome fixed state (add new) .events ≡ []
+  add-quiet : (new : Rule) → turn fixed state (add new) .events ≡ []
   add-quiet new =
-      by-idle fixed state NoEvent (try-add fixed state new) refl (by-add fixed laws state new NoEvent (λ why. refl) (λ straight has-slot. refl)) (state .job)
+      by-idle fixed state NoEvent (try-add fixed state new) refl (by-add fixed state NoEvent new (λ why. refl) (λ passed. refl)) (state .job)
 
-  look-up-quiet : (subject : ℕ) → outcome fixed state (look-up subject) .events ≡ []
-  look-up-quiet subject = cond-both _ _ _ (λ (made : Outcome). made .events ≡ []) (λ _. refl) (λ _. refl)
+  look-up-quiet : (subject : ℕ) → turn fixed state (look-up subject) .events ≡ []
+  look-up-quiet subject = cond-both _ _ _ (λ (made : Turn). made .events ≡ []) (λ _. refl) (λ _. refl)
 
   -- a refusal has no event
-  abbrev Quiet : Outcome → Type 0
+  abbrev Quiet : Turn → Type 0
   Quiet made = (why : Refusal) → made .answer ≡ refused why → made .events ≡ []
 
-  standing-quiet : (number : ℕ) (made : Outcome) → Quiet made → Quiet (when-idle fixed state (state .job) (when-standing fixed state number made))
+  standing-quiet : (number : ℕ) (made : Turn) → Quiet made → Quiet (when-idle fixed state (state .job) (when-standing fixed state number made))
   standing-quiet number made silent =
-      by-idle fixed state Quiet (when-standing fixed state number made) (λ _ _. refl) (by-standing Quiet number made (λ _ _. refl) silent) (state .job)
+      by-idle fixed state Quiet (when-standing fixed state number made) (λ _ _. refl) (by-standing fixed state Quiet number made (λ _ _. refl) silent) (state .job)
 
-  quiet : (call : Call) → Quiet (outcome fixed state call)
+  quiet : (call : Call) → Quiet (turn fixed state call)
   quiet (add new) why is = add-quiet new
   quiet (step ticket) why is =
-      by-name Quiet ticket (λ job. cond (written job) (refuse fixed state RunOut) (make-one fixed state job)) (λ _ _. refl)
-      (λ job phase. cond-both (written job) (refuse fixed state RunOut) (make-one fixed state job) Quiet (λ _ _ _. refl) (λ _ _ same. refused-counted (sym same)))
-      (state .job) sound why is
+      by-named fixed state Quiet ticket (λ job. cond (written job) (refuse fixed state RunOut) (make-one fixed state job)) (λ _ _. refl) (state .job)
+      (λ job _. by-step fixed state Quiet job (λ _ _. refl) (λ _ _ same. refused-counted (sym same))) why is
   quiet (complete ticket) why is =
-      by-name Quiet ticket (make-all fixed state) (λ _ _. refl) (λ job phase _ same. refused-counted (sym same)) (state .job) sound why is
+      by-named fixed state Quiet ticket (make-all fixed state) (λ _ _. refl) (state .job) (λ job _ _ same. refused-counted (sym same)) why is
   quiet (withdraw ticket) why is =
-      by-name Quiet ticket (take-back fixed state) (λ _ _. refl) (λ job phase _ same. refused-counted (sym same)) (state .job) sound why is
+      by-named fixed state Quiet ticket (take-back fixed state) (λ _ _. refl) (state .job) (λ job _ _ same. refused-counted (sym same)) why is
   quiet (drop-rule number) why is = standing-quiet number (erase-rule fixed state number) (λ _ same. done-refused same) why is
   quiet (change-action number action) why is = standing-quiet number (rewrite-rule fixed state number action) (λ _ same. done-refused same) why is
   quiet (look-up subject) why is = look-up-quiet subject
 
   -- a step that is not refused has one event
-  abbrev Single : Outcome → Type 0
+  abbrev Single : Turn → Type 0
   Single made = (n : ℕ) → made .answer ≡ counted n → length (made .events) ≡ 1
 
-  step-single : (ticket : Ticket) → Single (outcome fixed state (step ticket))
+  step-single : (ticket : Ticket) → Single (turn fixed state (step ticket))
   step-single ticket =
-      by-name Single ticket (λ job. cond (written job) (refuse fixed state RunOut) (make-one fixed state job)) (λ _ same. refused-counted same)
-      (λ job phase.
-      cond-both (written job) (refuse fixed state RunOut) (make-one fixed state job) Single (λ _ _ same. refused-counted same) (λ more _ _. one-write fixed state job (phase .short) more))
-      (state .job) sound
+      by-named fixed state Single ticket (λ job. cond (written job) (refuse fixed state RunOut) (make-one fixed state job)) (λ _ same. refused-counted same) (state .job)
+      (λ job is. by-step fixed state Single job (λ _ same. refused-counted same) (λ more _ _. one-write fixed state job (opened-job job is .short) more))
 
   pub lawful : (call : Call) → Sized call → Lawful fixed state call
   lawful call sized =
@@ -135,8 +126,8 @@ module _ (fixed : Fixed) (laws : KindLaws (fixed .kind)) (state : State) (sound 
         refuses-exactly = λ new idle fresh. refuses-exactly fixed laws state new idle (idle-settled idle) fresh;
         counts = λ some. call-good call sized some .count;
         by-events = record {
-          slots = refl;
-          trace = refl;
+          slots = slots-by-events fixed state call;
+          trace = trace-by-events fixed state call;
           refusal-none = quiet call;
           add-none = λ new is-add. subst (λ one. turn fixed state one .events ≡ []) (sym is-add) (add-quiet new);
           look-up-none = λ subject is-look-up. subst (λ one. turn fixed state one .events ≡ []) (sym is-look-up) (look-up-quiet subject);
@@ -144,6 +135,14 @@ module _ (fixed : Fixed) (laws : KindLaws (fixed .kind)) (state : State) (sound 
         };
       }
 
+sized-parts : (before : List Call) (call : Call) (rest : List Call) → All-sized (before ++ call ∷ rest) → All-sized before × Sized call
+sized-parts [] call rest sized = (tt, sized .0)
+sized-parts (first ∷ before) call rest sized =
+    let parts = sized-parts before call rest (sized .1) in
+    ((sized .0, parts .0), parts .1)
+
 pub law-of-runs : LawOfRuns
-law-of-runs fixed laws slots trace calls sized call sized-call =
-    lawful fixed laws (after fixed (cleared fixed slots trace) calls) (sound-after fixed laws calls (cleared fixed slots trace) sized (cleared-sound fixed laws slots trace)) call sized-call
+law-of-runs fixed laws slots trace calls sized before call rest are =
+    let start = cleared fixed slots trace in
+    let parts = sized-parts before call rest (subst All-sized are sized) in
+    lawful fixed laws (after fixed start before) (sound-after fixed laws before start (parts .0) (cleared-sound fixed laws slots trace)) call (parts .1)

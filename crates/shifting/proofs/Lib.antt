@@ -7,6 +7,7 @@ pub mod Spans
 pub mod Answering
 pub mod Progress
 pub mod Renewing
+pub mod Turns
 pub mod Sound
 pub mod Carrying
 pub mod Refusing

@@ -16,10 +16,11 @@ use Rattle.rules.specs.declared.refusal.Refusal.the-variants.{Busy, Mangled, Kn
 use Rattle.rules.specs.Kinds.{KindMeaning, KindLaws}
 use Rattle.shifting.specs.Chains.{some-below}
 use Rattle.shifting.specs.Slots.{Slot, at, usable, meets, level, tied, crossed, no-slot, jump-chain, DownwardChain}
-use Rattle.shifting.specs.Machine.{Ticket, Call, add, Answer, opened, counted, refused, Job, State, Fixed, Outcome, number-in, refuse, when-idle, open-add, try-add, outcome, turn}
+use Rattle.shifting.specs.Machine.{Ticket, Call, add, Answer, opened, counted, refused, Job, State, Fixed, Turn, number-in, refuse, when-idle, open-add, try-add, turn}
 use Rattle.shifting.specs.Law.{In, NewUntied, Refuses, NoChain}
 use Rattle.shifting.proofs.Scans.{some-below-hit}
 use Rattle.shifting.proofs.Settled.{Settled}
+use Rattle.shifting.proofs.Turns.{by-idle, by-add}
 use Rattle.shifting.proofs.Spans.{jump-shortest-chain, crossed-none, no-slot-none}
 
 refused-opened : {X : Type 0} {refusal : Refusal} {ticket : Ticket} → refused refusal ≡ opened ticket → X
@@ -33,11 +34,6 @@ absent-number number (rule ∷ rules) other =
 -- a test that is not true is false
 false-from : (test : Bool) → (test ≡ true → ⊥) → test ≡ false
 false-from test never = ⊎-elim (λ is. absurd (never is)) (λ is. is) (cases-bool test)
-
--- what holds of busy and of an idle board's outcome holds of a call that wants an idle board
-pub by-idle : (fixed : Fixed) (state : State) (P : Outcome → Type 0) (made : Outcome) → P (refuse fixed state Busy) → P made → (job : Option Job) → P (when-idle fixed state job made)
-by-idle fixed state P made busy idle None = idle
-by-idle fixed state P made busy idle (Some job) = busy
 
 module _ (fixed : Fixed) (laws : KindLaws (fixed .kind)) (state : State) (new : Rule) where
   level-rule : (slot : Slot) → level (fixed .kind) new slot ≡ true → (rule : Rule) × (slot ≡ Some rule) × (meets (fixed .kind) new rule ≡ true) × (rule .priority ≡ new .priority)
@@ -55,10 +51,10 @@ module _ (fixed : Fixed) (laws : KindLaws (fixed .kind)) (state : State) (new : 
       fresh .untied (found .0) (settled .stocked .only (place .0) (found .0) (found .1)) (found .2) (found .3))
 
   -- what an idle board does with a new, untied rule
-  new-untied-outcome : state .job ≡ None → Settled (fixed .kind) (state .slots) (state .rules) → NewUntied fixed state new
-      → outcome fixed state (add new)
+  new-untied-turn : state .job ≡ None → Settled (fixed .kind) (state .slots) (state .rules) → NewUntied fixed state new
+      → turn fixed state (add new)
       ≡ cond (crossed (fixed .kind) (state .slots) new) (refuse fixed state Crossed) (cond (no-slot (fixed .kind) (state .slots) new) (refuse fixed state NoSlot) (open-add fixed state new))
-  new-untied-outcome idle settled fresh =
+  new-untied-turn idle settled fresh =
       ap (λ job. when-idle fixed state job (try-add fixed state new)) idle
       ∙ (cond-false _ _ _ (or-from _ _ (ne-eqb (new .number) 0 (fresh .numbered)) (not-from-true _ (fresh .well-formed)))
       ∙ (cond-false _ _ _ (absent-number (new .number) (state .rules) (fresh .unused)) ∙ cond-false _ _ _ (untied-slots settled fresh)))
@@ -66,8 +62,8 @@ module _ (fixed : Fixed) (laws : KindLaws (fixed .kind)) (state : State) (new : 
   pub refuses-exactly : state .job ≡ None → Settled (fixed .kind) (state .slots) (state .rules) → NewUntied fixed state new
       → (Refuses fixed state new → NoChain fixed state new) × (NoChain fixed state new → Refuses fixed state new)
   refuses-exactly idle settled fresh =
-      subst (λ (done : Outcome). (((why : Refusal) × (done .answer ≡ refused why)) → NoChain fixed state new) × (NoChain fixed state new → (why : Refusal) × (done .answer ≡ refused why)))
-      (sym (new-untied-outcome idle settled fresh))
+      subst (λ (done : Turn). (((why : Refusal) × (done .answer ≡ refused why)) → NoChain fixed state new) × (NoChain fixed state new → (why : Refusal) × (done .answer ≡ refused why)))
+      (sym (new-untied-turn idle settled fresh))
       (cond-both _ _ _ Exactly
       (λ cross. (λ _. crossed-none (fixed .kind) laws (state .slots) new cross, λ _. (Crossed, refl)))
       (λ straight. cond-both _ _ _ Exactly
@@ -77,7 +73,7 @@ module _ (fixed : Fixed) (laws : KindLaws (fixed .kind)) (state : State) (new : 
         λ none. absurd (none (jump-chain (fixed .kind) (state .slots) new) (jump-shortest-chain (fixed .kind) laws (state .slots) new straight has-slot .0)),
       ))))
     where
-      Exactly : Outcome → Type 0
+      Exactly : Turn → Type 0
       Exactly done = (((why : Refusal) × (done .answer ≡ refused why)) → NoChain fixed state new) × (NoChain fixed state new → (why : Refusal) × (done .answer ≡ refused why))
 
   -- an add that answers with a ticket
@@ -85,28 +81,19 @@ module _ (fixed : Fixed) (laws : KindLaws (fixed .kind)) (state : State) (new : 
     pub straight : crossed (fixed .kind) (state .slots) new ≡ false
     pub has-slot : no-slot (fixed .kind) (state .slots) new ≡ false
     pub announced : ticket .length ≡ length (jump-chain (fixed .kind) (state .slots) new)
-    pub next-job : outcome fixed state (add new) .job ≡ Some (record { rule = new; chain = jump-chain (fixed .kind) (state .slots) new; made = 0 })
-
-  -- what holds of every refusal and of an open add holds of an add
-  pub by-add : (P : Outcome → Type 0) → ((why : Refusal) → P (refuse fixed state why))
-      → (crossed (fixed .kind) (state .slots) new ≡ false → no-slot (fixed .kind) (state .slots) new ≡ false → P (open-add fixed state new)) → P (try-add fixed state new)
-  by-add P refusal opening =
-      cond-both (eqb (new .number) 0 || not (fixed .kind .well-formed (new .«word_a») (new .«word_b»))) _ _ P (λ _. refusal Mangled)
-      (λ _. cond-both (number-in (new .number) (state .rules)) _ _ P (λ _. refusal Known)
-      (λ _. cond-both (tied (fixed .kind) (state .slots) new) _ _ P (λ _. refusal Tied)
-      (λ _. cond-both _ _ _ P (λ _. refusal Crossed) (λ straight. cond-both _ _ _ P (λ _. refusal NoSlot) (λ has-slot. opening straight has-slot)))))
+    pub next-job : turn fixed state (add new) .next .job ≡ Some (record { rule = new; chain = jump-chain (fixed .kind) (state .slots) new; made = 0 })
 
   same-ticket : {one two : Ticket} → opened one ≡ opened two → one ≡ two
   same-ticket same = cc
 
-  pub opens : (ticket : Ticket) → outcome fixed state (add new) .answer ≡ opened ticket → Opens ticket
+  pub opens : (ticket : Ticket) → turn fixed state (add new) .answer ≡ opened ticket → Opens ticket
   opens ticket answer =
       let one = by-idle fixed state Result (try-add fixed state new) (λ same. refused-opened same)
-      (by-add Result (λ why same. refused-opened same) (λ straight has-slot same. (straight, has-slot, ap (λ t. t .length) (sym (same-ticket same)), refl)))
+      (by-add fixed state Result new (λ why same. refused-opened same) (λ passed same. (passed .straight, passed .has-slot, ap (λ t. t .length) (sym (same-ticket same)), refl)))
       (state .job) answer in
       record { straight = one .0; has-slot = one .1; announced = one .2; next-job = one .3 }
     where
-      Result : Outcome → Type 0
+      Result : Turn → Type 0
       Result done = done .answer ≡ opened ticket → (crossed (fixed .kind) (state .slots) new ≡ false) × (no-slot (fixed .kind) (state .slots) new ≡ false)
           × (ticket .length ≡ length (jump-chain (fixed .kind) (state .slots) new))
-          × (done .job ≡ Some (record { rule = new; chain = jump-chain (fixed .kind) (state .slots) new; made = 0 }))
+          × (done .next .job ≡ Some (record { rule = new; chain = jump-chain (fixed .kind) (state .slots) new; made = 0 }))

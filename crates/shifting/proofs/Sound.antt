@@ -19,14 +19,15 @@ use Rattle.rules.specs.declared.refusal.Refusal.the-variants.{Busy, Mangled, Kn
 use Rattle.rules.specs.Kinds.{KindMeaning, KindLaws}
 use Rattle.shifting.specs.Chains.{scan, some-below}
 use Rattle.shifting.specs.Slots.{Slot, at, taken, usable, meets, level, tied, crossed, no-slot, jump-chain, carried-out, all-carried-out, first-match}
-use Rattle.shifting.specs.Machine.{Ticket, Call, add, step, complete, withdraw, drop-rule, change-action, look-up, Job, State, Fixed, Outcome, has-number, held, received, writes, unwritten, written, half-way, last-written}
-use Rattle.shifting.specs.Machine.{number-in, without, with-action, changed, refuse, when-idle, names, when-named, open-add, try-add, make-one, make-all, take-back, place, when-standing, outcome, turn, after, erases, cleared, told}
+use Rattle.shifting.specs.Machine.{Ticket, Call, add, step, complete, withdraw, drop-rule, change-action, look-up, Job, State, Fixed, Turn, has-number, held, received, writes, unwritten, written, half-way, last-written}
+use Rattle.shifting.specs.Machine.{number-in, without, with-action, changed, refuse, when-idle, names, when-named, open-add, try-add, make-one, make-all, take-back, place, when-standing, erase-rule, rewrite-rule, turn, after, erases, cleared, told}
 use Rattle.shifting.specs.Law.{In, Worded, Sized, All-sized, copies}
 use Rattle.shifting.proofs.Reading.{none-some, some-same, set-here, set-there}
 use Rattle.shifting.proofs.Scans.{scan-hit, some-below-none}
 use Rattle.shifting.proofs.Settled.{Ruled, Stocked, Settled, Fresh}
 use Rattle.shifting.proofs.Spans.{Reversed, chain-reversed, jump-shortest-chain}
 use Rattle.shifting.proofs.Progress.{Good, settled-good, with-new, with-all, Start, Mid, Going, mid-erased, advance, going-good, going-written, writes-good, writes-settled}
+use Rattle.shifting.proofs.Turns.{by-add, slots-by-events}
 use Rattle.shifting.proofs.Renewing.{dropped, renewed-settled}
 
 -- Lists.
@@ -91,8 +92,8 @@ module _ (fixed : Fixed) (laws : KindLaws (fixed .kind)) where
     pub inside : (some : ℕ) → some < length events → Good (fixed .kind) (all-carried-out slots (take some events)) rules (copies job some)
     pub leaves : Phase (all-carried-out slots events) rules-after job-after
 
-  abbrev StepBy : State → Option Job → Outcome → Type 0
-  StepBy state job done = Step (state .slots) (state .rules) job (done .events) (done .rules) (done .job)
+  abbrev StepBy : State → Option Job → Turn → Type 0
+  StepBy state job done = Step (state .slots) (state .rules) job (done .events) (done .next .rules) (done .next .job)
 
   no-event : (slots : List Slot) (rules : List Rule) (job : Option Job) (rules-after : List Rule) (job-after : Option Job) → Phase slots rules-after job-after
       → Step slots rules job [] rules-after job-after
@@ -225,22 +226,16 @@ module _ (fixed : Fixed) (laws : KindLaws (fixed .kind)) where
 
   try-add-step : (state : State) (new : Rule) → Worded new → Sound state → Settled (fixed .kind) (state .slots) (state .rules) → StepBy state None (try-add fixed state new)
   try-add-step state new words sound settled =
-      let refusal : (why : Refusal) → StepBy state None (refuse fixed state why) = λ why. no-event (state .slots) (state .rules) None (state .rules) (state .job) sound in
-      cond-both _ _ _ (StepBy state None) (λ _. refusal Mangled)
-      (λ fine.
-      let parts = or-parts (eqb (new .number) 0) (not (fixed .kind .well-formed (new .«word_a») (new .«word_b»))) fine in
-      cond-both _ _ _ (StepBy state None) (λ _. refusal Known)
-      (λ unused. cond-both _ _ _ (StepBy state None) (λ _. refusal Tied)
-      (λ untied. cond-both _ _ _ (StepBy state None) (λ _. refusal Crossed)
-      (λ straight. cond-both _ _ _ (StepBy state None) (λ _. refusal NoSlot)
-      (λ has-slot.
+      by-add fixed state (StepBy state None) new (λ why. no-event (state .slots) (state .rules) None (state .rules) (state .job) sound)
+      (λ passed.
+      let parts = or-parts (eqb (new .number) 0) (not (fixed .kind .well-formed (new .«word_a») (new .«word_b»))) (passed .fine) in
       open-add-step state new settled
       (record {
         fine = record { words = words; well-formed = not-false _ (parts .1); numbered = eqb-false (new .number) 0 (parts .0) };
-        unused = unused;
-        untied = not-tied (state .slots) (state .rules) new settled untied;
+        unused = passed .unused;
+        untied = not-tied (state .slots) (state .rules) new settled (passed .untied);
       })
-      straight has-slot)))))
+      (passed .straight) (passed .has-slot))
 
   -- Drop and change.
 
@@ -258,12 +253,12 @@ module _ (fixed : Fixed) (laws : KindLaws (fixed .kind)) where
 
   -- Every call.
 
-  when-idle-step : (state : State) (done : Outcome) → Sound state → (job : Option Job) → Phase (state .slots) (state .rules) job
+  when-idle-step : (state : State) (done : Turn) → Sound state → (job : Option Job) → Phase (state .slots) (state .rules) job
       → (Settled (fixed .kind) (state .slots) (state .rules) → StepBy state None done) → StepBy state job (when-idle fixed state job done)
   when-idle-step state done sound None settled idle = idle settled
   when-idle-step state done sound (Some job) opened idle = no-event (state .slots) (state .rules) (Some job) (state .rules) (state .job) sound
 
-  when-named-step : (state : State) (ticket : Ticket) (done : Job → Outcome) → Sound state → (job : Option Job) → Phase (state .slots) (state .rules) job
+  when-named-step : (state : State) (ticket : Ticket) (done : Job → Turn) → Sound state → (job : Option Job) → Phase (state .slots) (state .rules) job
       → ((one : Job) → Opened (state .slots) (state .rules) one → StepBy state (Some one) (done one)) → StepBy state job (when-named fixed state ticket job done)
   when-named-step state ticket done sound None settled named = no-event (state .slots) (state .rules) None (state .rules) (state .job) sound
   when-named-step state ticket done sound (Some job) opened named =
@@ -271,7 +266,7 @@ module _ (fixed : Fixed) (laws : KindLaws (fixed .kind)) where
       (λ _. named job opened)
       (λ _. no-event (state .slots) (state .rules) (Some job) (state .rules) (state .job) sound)
 
-  pub call-step : (state : State) (call : Call) → Sized call → Sound state → StepBy state (state .job) (outcome fixed state call)
+  pub call-step : (state : State) (call : Call) → Sized call → Sound state → StepBy state (state .job) (turn fixed state call)
   call-step state (add new) sized sound = when-idle-step state (try-add fixed state new) sound (state .job) sound (try-add-step state new sized sound)
   call-step state (step ticket) sized sound =
       when-named-step state ticket (λ job. cond (written job) (refuse fixed state RunOut) (make-one fixed state job)) sound (state .job) sound
@@ -306,9 +301,14 @@ module _ (fixed : Fixed) (laws : KindLaws (fixed .kind)) where
 
   -- Runs.
 
+  pub sound-next : (state : State) (call : Call) → Sized call → Sound state → Sound (turn fixed state call .next)
+  sound-next state call sized sound =
+      subst (λ (slots : List Slot). Phase slots (turn fixed state call .next .rules) (turn fixed state call .next .job)) (sym (slots-by-events fixed state call))
+      (call-step state call sized sound .leaves)
+
   pub sound-after : (calls : List Call) (state : State) → All-sized calls → Sound state → Sound (after fixed state calls)
   sound-after [] state sized sound = sound
-  sound-after (call ∷ calls) state sized sound = sound-after calls (turn fixed state call .next) (sized .1) (call-step state call (sized .0) sound .leaves)
+  sound-after (call ∷ calls) state sized sound = sound-after calls (turn fixed state call .next) (sized .1) (sound-next state call (sized .0) sound)
 
   erased-none : (slots : List Slot) (c : ℕ) → at (set slots c None) c ≡ None
   erased-none slots c =

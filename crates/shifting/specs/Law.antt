@@ -61,13 +61,7 @@ copies (Some job) more = cond (half-way (record { rule = job .rule; chain = job 
 module _ (fixed : Fixed) where
   -- a complete or a withdraw that takes its ticket
   abbrev pub Takes-ticket : State → Call → Type 0
-  Takes-ticket state (add new) = ⊥
-  Takes-ticket state (step ticket) = ⊥
-  Takes-ticket state (complete ticket) = (n : ℕ) × (turn fixed state (complete ticket) .answer ≡ counted n)
-  Takes-ticket state (withdraw ticket) = (n : ℕ) × (turn fixed state (withdraw ticket) .answer ≡ counted n)
-  Takes-ticket state (drop-rule number) = ⊥
-  Takes-ticket state (change-action number action) = ⊥
-  Takes-ticket state (look-up subject) = ⊥
+  Takes-ticket state call = (ticket : Ticket) × (n : ℕ) × ((call ≡ complete ticket) ⊎ (call ≡ withdraw ticket)) × (turn fixed state call .answer ≡ counted n)
 
   -- the open add stays open, whatever calls these are
   abbrev pub Stays-open : State → List Call → Type 0
@@ -76,13 +70,9 @@ module _ (fixed : Fixed) where
 
   -- an add is carried through by a step that answers 0, or by a complete that takes its ticket
   abbrev pub Carries-through : State → Call → Type 0
-  Carries-through state (add new) = ⊥
-  Carries-through state (step ticket) = turn fixed state (step ticket) .answer ≡ counted 0
-  Carries-through state (complete ticket) = (n : ℕ) × (turn fixed state (complete ticket) .answer ≡ counted n)
-  Carries-through state (withdraw ticket) = ⊥
-  Carries-through state (drop-rule number) = ⊥
-  Carries-through state (change-action number action) = ⊥
-  Carries-through state (look-up subject) = ⊥
+  Carries-through state call =
+      ((ticket : Ticket) × (call ≡ step ticket) × (turn fixed state call .answer ≡ counted 0))
+      ⊎ ((ticket : Ticket) × (n : ℕ) × (call ≡ complete ticket) × (turn fixed state call .answer ≡ counted n))
 
   -- the writes of a step or a complete
   abbrev pub writes-of : State → Call → ℕ
@@ -164,8 +154,12 @@ module _ (fixed : Fixed) where
       -- slots and trace are what the events make of those before, by the device's rule and in order
       pub by-events : ByEvents
 
--- For every kind that keeps its law, every trace rule, board number and device, every list of calls from a cleared board, and every call after it.
+-- The law of a run from a cleared board: of every call in the list, after the calls before it.
+abbrev pub LawOfRun : Fixed → List Slot → ℕ → List Call → Type 0
+LawOfRun fixed slots trace calls =
+    (before : List Call) (call : Call) (rest : List Call) → calls ≡ before ++ call ∷ rest → Lawful fixed (after fixed (cleared fixed slots trace) before) call
+
+-- For every kind that keeps its law, every trace rule and board number, every device and every list of calls, refused or not.
 abbrev pub LawOfRuns : Type 0
 LawOfRuns =
-    (fixed : Fixed) → KindLaws (fixed .kind) → (slots : List Slot) (trace : ℕ) (calls : List Call) → All-sized calls → (call : Call) → Sized call
-    → Lawful fixed (after fixed (cleared fixed slots trace) calls) call
+    (fixed : Fixed) → KindLaws (fixed .kind) → (slots : List Slot) (trace : ℕ) (calls : List Call) → All-sized calls → LawOfRun fixed slots trace calls

@@ -127,52 +127,53 @@ abbrev pub changed : ℕ → ℕ → List Rule → List Rule
 changed number action [] = []
 changed number action (rule ∷ rules) = cond (eqb (rule .number) number) (with-action action rule) rule ∷ changed number action rules
 
--- Each call: its answer, its writes and erases, and the rules and the open add after it.
--- Of several refusals the one with the smallest number is given, so they are tried in that order.
-
-pub record Outcome : Type 0 where
-  pub answer : Answer
-  pub events : List Event
-  pub rules : List Rule
-  pub job : Option Job
-
-abbrev pub has-number : ℕ → Slot → Bool
-has-number number None = false
-has-number number (Some rule) = eqb (rule .number) number
-
 -- the number and action that a look-up tells of a slot
 abbrev pub told : Slot → Option (ℕ × ℕ)
 told None = None
 told (Some rule) = Some (rule .number, rule .action)
 
-module _ (fixed : Fixed) (state : State) where
-  abbrev pub refuse : Refusal → Outcome
-  refuse refusal = record { answer = refused refusal; events = []; rules = state .rules; job = state .job }
+abbrev pub has-number : ℕ → Slot → Bool
+has-number number None = false
+has-number number (Some rule) = eqb (rule .number) number
 
-  abbrev pub when-idle : Option Job → Outcome → Outcome
-  when-idle None outcome = outcome
-  when-idle (Some job) outcome = refuse Busy
+-- What a call answers, its single writes and erases, and the state that it leaves.
+pub record Turn : Type 0 where
+  pub answer : Answer
+  pub events : List Event
+  pub next : State
+
+-- Of several refusals the one with the smallest number is given, so they are tried in that order.
+module _ (fixed : Fixed) (state : State) where
+  -- a call with this answer, these events, which are carried out in order, and these rules and this open add after it
+  abbrev pub does : Answer → List Event → List Rule → Option Job → Turn
+  does answer events rules job =
+      let slots = all-carried-out (state .slots) events in
+      let trace = all-traced (fixed .traced) (state .trace) events in
+      record { answer = answer; events = events; next = record { slots = slots; trace = trace; rules = rules; job = job } }
+
+  abbrev pub refuse : Refusal → Turn
+  refuse refusal = does (refused refusal) [] (state .rules) (state .job)
+
+  abbrev pub when-idle : Option Job → Turn → Turn
+  when-idle None made = made
+  when-idle (Some job) made = refuse Busy
 
   -- any ticket that names the open add is good
   abbrev pub names : Ticket → Job → Bool
   names ticket job =
       eqb (ticket .board) (fixed .board) && (eqb (ticket .rule) (job .rule .number) && eqb (ticket .length) (length (job .chain)))
 
-  abbrev pub when-named : Ticket → Option Job → (Job → Outcome) → Outcome
-  when-named ticket None outcome = refuse Foreign
-  when-named ticket (Some job) outcome = cond (names ticket job) (outcome job) (refuse Foreign)
+  abbrev pub when-named : Ticket → Option Job → (Job → Turn) → Turn
+  when-named ticket None made = refuse Foreign
+  when-named ticket (Some job) made = cond (names ticket job) (made job) (refuse Foreign)
 
-  abbrev pub open-add : Rule → Outcome
+  abbrev pub open-add : Rule → Turn
   open-add new =
       let chain = jump-chain (fixed .kind) (state .slots) new in
-      record {
-        answer = opened (record { board = fixed .board; rule = new .number; length = length chain });
-        events = [];
-        rules = state .rules;
-        job = Some (record { rule = new; chain = chain; made = 0 });
-      }
+      let ticket : Ticket = record { board = fixed .board; rule = new .number; length = length chain } in
+      does (opened ticket) [] (state .rules) (Some (record { rule = new; chain = chain; made = 0 }))
 
-  abbrev pub try-add : Rule → Outcome
+  abbrev pub try-add : Rule → Turn
   try-add new =
       cond (eqb (new .number) 0 || not (fixed .kind .well-formed (new .«word_a») (new .«word_b»))) (refuse Mangled)
       (cond (number-in (new .number) (state .rules)) (refuse Known)
@@ -181,86 +182,47 @@ module _ (fixed : Fixed) (state : State) where
       (cond (no-slot (fixed .kind) (state .slots) new) (refuse NoSlot)
       (open-add new)))))
 
-  abbrev pub make-one : Job → Outcome
+  abbrev pub make-one : Job → Turn
   make-one job =
       let further : Job = record { rule = job .rule; chain = job .chain; made = suc (job .made) } in
-      record {
-        answer = counted (length (job .chain) - suc (job .made));
-        events = take 1 (writes (state .slots) (job .rule) (unwritten job));
-        rules = cond (written further) (job .rule ∷ state .rules) (state .rules);
-        job = Some further;
-      }
+      does (counted (length (job .chain) - suc (job .made))) (take 1 (writes (state .slots) (job .rule) (unwritten job)))
+      (cond (written further) (job .rule ∷ state .rules) (state .rules)) (Some further)
 
-  abbrev pub make-all : Job → Outcome
+  abbrev pub make-all : Job → Turn
   make-all job =
-      record {
-        answer = counted (length (job .chain));
-        events = writes (state .slots) (job .rule) (unwritten job);
-        rules = cond (written job) (state .rules) (job .rule ∷ state .rules);
-        job = None;
-      }
+      does (counted (length (job .chain))) (writes (state .slots) (job .rule) (unwritten job))
+      (cond (written job) (state .rules) (job .rule ∷ state .rules)) None
 
-  abbrev pub take-back : Job → Outcome
+  abbrev pub take-back : Job → Turn
   take-back job =
-      record {
-        answer = counted (cond (written job) 1 0);
-        events = cond (half-way job) (Erase (last-written job) ∷ []) [];
-        rules = state .rules;
-        job = None;
-      }
+      does (counted (cond (written job) 1 0)) (cond (half-way job) (Erase (last-written job) ∷ []) []) (state .rules) None
 
   -- the slot of the rule with this number, or the count of slots
   abbrev pub place : ℕ → ℕ
   place number = scan (λ i. has-number number (at (state .slots) i)) 0 (length (state .slots))
 
-  abbrev pub when-standing : ℕ → Outcome → Outcome
-  when-standing number outcome =
-      cond (eqb number 0 || not (ltb (place number) (length (state .slots)))) (refuse Unknown) outcome
+  abbrev pub when-standing : ℕ → Turn → Turn
+  when-standing number made = cond (eqb number 0 || not (ltb (place number) (length (state .slots)))) (refuse Unknown) made
 
-  abbrev pub erase-rule : ℕ → Outcome
-  erase-rule number = record { answer = done; events = Erase (place number) ∷ []; rules = without number (state .rules); job = None }
+  abbrev pub erase-rule : ℕ → Turn
+  erase-rule number = does done (Erase (place number) ∷ []) (without number (state .rules)) None
 
-  abbrev pub rewrite-rule : ℕ → ℕ → Outcome
+  abbrev pub rewrite-rule : ℕ → ℕ → Turn
   rewrite-rule number action =
-      record {
-        answer = done;
-        events = Write (place number) (with-action action (held (at (state .slots) (place number)))) ∷ [];
-        rules = changed number action (state .rules);
-        job = None;
-      }
+      let rule = held (at (state .slots) (place number)) in
+      does done (Write (place number) (with-action action rule) ∷ []) (changed number action (state .rules)) None
 
-  abbrev pub outcome : Call → Outcome
-  outcome (add new) = when-idle (state .job) (try-add new)
-  outcome (step ticket) = when-named ticket (state .job) (λ job. cond (written job) (refuse RunOut) (make-one job))
-  outcome (complete ticket) = when-named ticket (state .job) make-all
-  outcome (withdraw ticket) = when-named ticket (state .job) take-back
-  outcome (drop-rule number) = when-idle (state .job) (when-standing number (erase-rule number))
-  outcome (change-action number action) = when-idle (state .job) (when-standing number (rewrite-rule number action))
-  outcome (look-up subject) =
+  abbrev pub turn : Call → Turn
+  turn (add new) = when-idle (state .job) (try-add new)
+  turn (step ticket) = when-named ticket (state .job) (λ job. cond (written job) (refuse RunOut) (make-one job))
+  turn (complete ticket) = when-named ticket (state .job) make-all
+  turn (withdraw ticket) = when-named ticket (state .job) take-back
+  turn (drop-rule number) = when-idle (state .job) (when-standing number (erase-rule number))
+  turn (change-action number action) = when-idle (state .job) (when-standing number (rewrite-rule number action))
+  turn (look-up subject) =
       cond (fixed .kind .well-formed-subject subject)
-      (record { answer = found (told (first-match (fixed .kind) (state .slots) subject)); events = []; rules = state .rules; job = state .job })
+      (does (found (told (first-match (fixed .kind) (state .slots) subject))) [] (state .rules) (state .job))
       (refuse Misdialled)
-
--- A turn of the machine: the events are carried out in order.
-
-pub record Turn : Type 0 where
-  pub answer : Answer
-  pub events : List Event
-  pub next : State
-
-abbrev pub turn : Fixed → State → Call → Turn
-turn fixed state call =
-    let made = outcome fixed state call in
-    record {
-      answer = made .answer;
-      events = made .events;
-      next = record {
-        slots = all-carried-out (state .slots) (made .events);
-        trace = all-traced (fixed .traced) (state .trace) (made .events);
-        rules = made .rules;
-        job = made .job;
-      };
-    }
 
 -- the state after a list of calls
 abbrev pub after : Fixed → State → List Call → State

@@ -1,0 +1,14 @@
+pub mod Scans
+pub mod Jumps
+pub mod Reading
+pub mod Order
+pub mod Settled
+pub mod Spans
+pub mod Answering
+pub mod Progress
+pub mod Renewing
+pub mod Turns
+pub mod Sound
+pub mod Carrying
+pub mod Refusing
+pub mod Lawful

@@ -1,0 +1,4 @@
+pub mod Chains
+pub mod Slots
+pub mod Machine
+pub mod Law

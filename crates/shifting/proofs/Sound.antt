@@ -9,6 +9,7 @@ use lib.Dec.{eqb, ltb}
 use lib.ListN.{length, getD, set, take, drop}
 use Rattle.std.specs.declared.option.Option.{Option}
 use Rattle.std.specs.declared.option.Option.the-variants.{None, Some}
+use Rattle.std.specs.shelf.Lists.{All}
 use Rattle.std.proofs.shelf.Tests.{cases-eq, cases-lt, cases-bool, cond-both, cond-true, cond-false, both-ways, eq-eqb, ne-eqb, eqb-true, eqb-false, lt-ltb, le-ltb, ltb-true, ltb-false, and-from, and-left, and-right, and-parts, and-cases, or-parts, not-false, not-true}
 use Rattle.std.proofs.shelf.Lists.{length-set, length-drop, length-reverse, getD-past}
 use Rattle.rules.specs.declared.rule.Rule.{Rule}
@@ -21,7 +22,7 @@ use Rattle.shifting.specs.Chains.{scan, some-below}
 use Rattle.shifting.specs.Slots.{Slot, at, taken, usable, meets, level, tied, crossed, no-slot, jump-chain, carried-out, all-carried-out, first-match}
 use Rattle.shifting.specs.Machine.{Ticket, Call, add, step, complete, withdraw, drop-rule, change-action, look-up, Job, State, Fixed, Turn, has-number, held, received, writes, unwritten, written, half-way, last-written}
 use Rattle.shifting.specs.Machine.{number-in, without, with-action, changed, refuse, when-idle, names, when-named, open-add, try-add, make-one, make-all, take-back, place, when-standing, erase-rule, rewrite-rule, turn, after, erases, cleared, told}
-use Rattle.shifting.specs.Law.{In, Worded, Sized, All-sized, copies}
+use Rattle.shifting.specs.Law.{In, Worded, Sized, copies}
 use Rattle.shifting.proofs.Reading.{none-some, some-same, set-here, set-there}
 use Rattle.shifting.proofs.Scans.{scan-hit, some-below-none}
 use Rattle.shifting.proofs.Settled.{Ruled, Stocked, Settled, Fresh}
@@ -207,7 +208,7 @@ module _ (fixed : Fixed) (laws : KindLaws (fixed .kind)) where
   open-add-step state new settled fresh straight has-slot =
       let chain = jump-chain (fixed .kind) (state .slots) new in
       let back = chain-reversed (fixed .kind) laws (state .slots) new chain (fresh .fine .words) (inside-worded (state .slots) (state .rules) settled)
-      (jump-shortest-chain (fixed .kind) laws (state .slots) new straight has-slot .0) in
+      (jump-shortest-chain (fixed .kind) (state .slots) new straight has-slot .0) in
       no-event (state .slots) (state .rules) None (state .rules) _
       (record {
         short = omega arith;
@@ -267,7 +268,7 @@ module _ (fixed : Fixed) (laws : KindLaws (fixed .kind)) where
       (λ _. no-event (state .slots) (state .rules) (Some job) (state .rules) (state .job) sound)
 
   pub call-step : (state : State) (call : Call) → Sized call → Sound state → StepBy state (state .job) (turn fixed state call)
-  call-step state (add new) sized sound = when-idle-step state (try-add fixed state new) sound (state .job) sound (try-add-step state new sized sound)
+  call-step state (add new) sized sound = when-idle-step state (try-add fixed state new) sound (state .job) sound (try-add-step state new (sized new refl) sound)
   call-step state (step ticket) sized sound =
       when-named-step state ticket (λ job. cond (written job) (refuse fixed state RunOut) (make-one fixed state job)) sound (state .job) sound
       (λ job opened.
@@ -306,7 +307,7 @@ module _ (fixed : Fixed) (laws : KindLaws (fixed .kind)) where
       subst (λ (slots : List Slot). Phase slots (turn fixed state call .next .rules) (turn fixed state call .next .job)) (sym (slots-by-events fixed state call))
       (call-step state call sized sound .leaves)
 
-  pub sound-after : (calls : List Call) (state : State) → All-sized calls → Sound state → Sound (after fixed state calls)
+  pub sound-after : (calls : List Call) (state : State) → All Sized calls → Sound state → Sound (after fixed state calls)
   sound-after [] state sized sound = sound
   sound-after (call ∷ calls) state sized sound = sound-after calls (turn fixed state call .next) (sized .1) (sound-next state call (sized .0) sound)
 

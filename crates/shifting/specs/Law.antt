@@ -6,13 +6,14 @@ use mathlib.Core.Logic.{_⊎_, _≢_}
 use Prim.Native.Nat.{ℕ, zero, suc, _+_, _≤_}
 use lib.Dec.{ltb}
 use lib.ListN.{length, take}
+use Rattle.std.specs.shelf.Lists.{All}
 use Rattle.std.specs.declared.option.Option.{Option}
 use Rattle.std.specs.declared.option.Option.the-variants.{None, Some}
 use Rattle.rules.specs.declared.rule.Rule.{Rule}
 use Rattle.rules.specs.declared.event.Event.{Event}
 use Rattle.rules.specs.declared.refusal.Refusal.{Refusal}
 use Rattle.rules.specs.Kinds.{KindMeaning, KindLaws, Word}
-use Rattle.shifting.specs.Slots.{Slot, at, taken, all-carried-out, matches, meets, RightOrder, DownwardChain, first-match}
+use Rattle.shifting.specs.Slots.{Slot, at, taken, all-carried-out, matches, meets, RightOrder, DownwardChain, jump-chain, first-match}
 use Rattle.shifting.specs.Machine.{Ticket, Call, add, step, complete, withdraw, drop-rule, change-action, look-up}
 use Rattle.shifting.specs.Machine.{Answer, opened, counted, done, found, refused, Job, State, Fixed, cleared, half-way, told, all-traced, turn, after}
 
@@ -39,19 +40,9 @@ Answers kind rules subject (Some (number, action)) = Best kind rules subject num
 abbrev pub Worded : Rule → Type 0
 Worded rule = Word (rule .«word_a») × Word (rule .«word_b»)
 
--- what a call hands in has 64 bits, where a kind looks at it
+-- a rule that is added has words of 64 bits; nothing else that a call hands in is held to a size
 abbrev pub Sized : Call → Type 0
-Sized (add new) = Worded new
-Sized (step ticket) = Unit {0}
-Sized (complete ticket) = Unit {0}
-Sized (withdraw ticket) = Unit {0}
-Sized (drop-rule number) = Unit {0}
-Sized (change-action number action) = Unit {0}
-Sized (look-up subject) = Word subject
-
-abbrev pub All-sized : List Call → Type 0
-All-sized [] = Unit {0}
-All-sized (call ∷ calls) = Sized call × All-sized calls
+Sized call = (new : Rule) → call ≡ add new → Worded new
 
 -- 1 while an open add, with so many more writes made, has made some of its writes but not all
 abbrev pub copies : Option Job → ℕ → ℕ
@@ -162,4 +153,10 @@ LawOfRun fixed slots trace calls =
 -- For every kind that keeps its law, every trace rule and board number, every device and every list of calls, refused or not.
 abbrev pub LawOfRuns : Type 0
 LawOfRuns =
-    (fixed : Fixed) → KindLaws (fixed .kind) → (slots : List Slot) (trace : ℕ) (calls : List Call) → All-sized calls → LawOfRun fixed slots trace calls
+    (fixed : Fixed) → KindLaws (fixed .kind) → (slots : List Slot) (trace : ℕ) (calls : List Call) → All Sized calls → LawOfRun fixed slots trace calls
+
+-- If a rule has a downward chain at all, the jump rule gives one, and none is shorter: in every table, also one out of order.
+abbrev pub JumpRule : Type 0
+JumpRule =
+    (kind : KindMeaning) (slots : List Slot) (new : Rule) (other : List ℕ) → DownwardChain kind slots new other
+    → DownwardChain kind slots new (jump-chain kind slots new) × (length (jump-chain kind slots new) ≤ length other)

@@ -12,3 +12,4 @@ pub mod Sound
 pub mod Carrying
 pub mod Refusing
 pub mod Lawful
+pub mod Serving

@@ -55,6 +55,10 @@ copies-some job some fewer = ap (λ b. cond b 1 0) (and-true (ltb 0 (job .made +
 copies-all : (job : Job) (some : ℕ) → length (job .chain) ≤ job .made + some → copies (Some job) some ≡ 0
 copies-all job some all = ap (λ b. cond b 1 0) (and-right (ltb 0 (job .made + some)) _ (le-ltb (job .made + some) (length (job .chain)) all))
 
+pub found-number : (slot : Slot) (number : ℕ) → has-number number slot ≡ true → (rule : Rule) × (slot ≡ Some rule) × (rule .number ≡ number)
+found-number None number hit = absurd (both-ways false refl hit)
+found-number (Some rule) number hit = (rule, refl, eqb-true (rule .number) number hit)
+
 module _ (fixed : Fixed) (laws : KindLaws (fixed .kind)) where
   -- an open add
   pub record Opened (slots : List Slot) (rules : List Rule) (job : Job) : Type 0 where
@@ -239,10 +243,6 @@ module _ (fixed : Fixed) (laws : KindLaws (fixed .kind)) where
       (passed .straight) (passed .has-slot))
 
   -- Drop and change.
-
-  found-number : (slot : Slot) (number : ℕ) → has-number number slot ≡ true → (rule : Rule) × (slot ≡ Some rule) × (rule .number ≡ number)
-  found-number None number hit = absurd (both-ways false refl hit)
-  found-number (Some rule) number hit = (rule, refl, eqb-true (rule .number) number hit)
 
   standing : (state : State) (number : ℕ) → (eqb number 0 || not (ltb (place fixed state number) (length (state .slots)))) ≡ false
       → (rule : Rule) × (at (state .slots) (place fixed state number) ≡ Some rule) × (rule .number ≡ number)

@@ -1,13 +1,11 @@
 -- The six parts of the law, of every call of every run. Assumes nothing.
-use mathlib.Core.Path.{_≡_, refl, ap, sym, subst, _∙_}
+use mathlib.Core.Path.{_≡_, refl, sym, subst}
 use mathlib.Core.Bool.{Bool, true, false, cond}
 use mathlib.Core.List.{List, [], _∷_, _++_}
-use mathlib.Core.Logic.{_⊎_, inl, inr, ⊎-elim}
-use Prim.Native.Nat.{ℕ, zero, suc, _+_, _≤_, _<_}
+use Prim.Native.Nat.{ℕ}
 use native.Mathlib.Omega.{arith}
 use lib.Dec.{ltb}
-use lib.ListN.{length, take}
-use Rattle.std.specs.declared.option.Option.{Option}
+use lib.ListN.{length}
 use Rattle.std.specs.declared.option.Option.the-variants.{None, Some}
 use Rattle.std.specs.shelf.Lists.{All}
 use Rattle.std.proofs.shelf.Tests.{cond-both, ltb-true, ltb-false}
@@ -15,12 +13,12 @@ use Rattle.std.proofs.shelf.Lists.{take-all}
 use Rattle.rules.specs.declared.rule.Rule.{Rule}
 use Rattle.rules.specs.declared.event.Event.{Event}
 use Rattle.rules.specs.declared.refusal.Refusal.{Refusal}
-use Rattle.rules.specs.declared.refusal.Refusal.the-variants.{Busy, Unknown, Foreign, RunOut, Misdialled}
-use Rattle.rules.specs.Kinds.{KindMeaning, KindLaws}
-use Rattle.shifting.specs.Slots.{Slot, all-carried-out, jump-chain, first-match}
-use Rattle.shifting.specs.Machine.{Ticket, Call, add, step, complete, withdraw, drop-rule, change-action, look-up, Answer, opened, counted, done, found, refused, Job, State, Fixed, Turn}
-use Rattle.shifting.specs.Machine.{refuse, when-idle, names, when-named, when-standing, erase-rule, rewrite-rule, open-add, try-add, make-one, make-all, take-back, written, told, turn, after, cleared}
-use Rattle.shifting.specs.Law.{Sized, LawOfRuns, Lawful, Announced, Answered, ByEvents, slots-at, rules-at, copies-at, copies}
+use Rattle.rules.specs.declared.refusal.Refusal.the-variants.{RunOut}
+use Rattle.rules.specs.Kinds.{KindLaws}
+use Rattle.shifting.specs.Slots.{Slot, all-carried-out, jump-chain}
+use Rattle.shifting.specs.Machine.{Ticket, Call, add, step, complete, withdraw, drop-rule, change-action, look-up, opened, counted, done, refused, Job, State, Fixed, Turn}
+use Rattle.shifting.specs.Machine.{refuse, when-idle, when-standing, erase-rule, rewrite-rule, try-add, make-one, make-all, take-back, written, turn, after, cleared}
+use Rattle.shifting.specs.Law.{Sized, LawOfRuns, Lawful, Announced, slots-at, rules-at, copies-at, copies}
 use Rattle.shifting.proofs.Settled.{Settled}
 use Rattle.shifting.proofs.Progress.{Good}
 use Rattle.shifting.proofs.Answering.{first-match-answers, only-answer}

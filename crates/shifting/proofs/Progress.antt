@@ -1,22 +1,21 @@
 -- An open add on its way, write by write. Between two writes the slots are those of a settled board with one slot more, the gap,
 -- into which a copy was put: the rest of the chain, named from its end, is a chain of that board. Assumes nothing.
-use mathlib.Core.Path.{_≡_, refl, ap, ap₂, sym, _∙_}
-use mathlib.Core.Bool.{Bool, true, false, cond}
+use mathlib.Core.Path.{_≡_, refl, ap, sym, _∙_}
+use mathlib.Core.Bool.{cond}
 use mathlib.Core.List.{List, [], _∷_}
-use mathlib.Core.Logic.{_⊎_, inl, inr, ⊎-elim}
-use Prim.Native.Nat.{ℕ, zero, suc, _+_, _≤_, _<_}
+use mathlib.Core.Logic.{_⊎_, inr, ⊎-elim}
+use Prim.Native.Nat.{ℕ, zero, suc, _+_, _<_}
 use native.Mathlib.Omega.{arith}
 use lib.Dec.{ltb}
 use lib.ListN.{length, set, take}
-use Rattle.std.specs.declared.option.Option.{Option}
 use Rattle.std.specs.declared.option.Option.the-variants.{None, Some}
-use Rattle.std.proofs.shelf.Tests.{lt-ltb, cond-true}
+use Rattle.std.proofs.shelf.Tests.{lt-ltb}
 use Rattle.std.proofs.shelf.Lists.{length-set, set-set, set-getD}
 use Rattle.rules.specs.declared.rule.Rule.{Rule}
 use Rattle.rules.specs.Kinds.{KindMeaning, KindLaws}
 use Rattle.shifting.specs.Slots.{Slot, at, taken, usable, all-carried-out}
 use Rattle.shifting.specs.Machine.{held, received, writes}
-use Rattle.shifting.proofs.Reading.{at-within, set-here, set-there, moved-to}
+use Rattle.shifting.proofs.Reading.{at-within, set-here, set-there}
 use Rattle.shifting.proofs.Settled.{BackChain, Ruled, Stocked, Settled, Fresh, usable-set, carry-back, copied, copied-count, moved, joined}
 
 -- what holds inside a call as well: the slots hold the rules, in order, and with so many copies

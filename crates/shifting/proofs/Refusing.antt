@@ -1,22 +1,20 @@
 -- When an add is refused, and when it opens a ticket. Assumes nothing.
 use mathlib.Core.Path.{_≡_, refl, ap, sym, subst, _∙_}
-use mathlib.Core.Bool.{Bool, true, false, not, cond, _||_}
+use mathlib.Core.Bool.{true, false, cond}
 use mathlib.Core.List.{List, [], _∷_}
-use mathlib.Core.Logic.{_⊎_, inl, inr, ⊎-elim}
-use Prim.Native.Nat.{ℕ, zero, suc, _≤_, _<_}
+use mathlib.Core.Logic.{inl, inr}
+use Prim.Native.Nat.{ℕ}
 use native.Mathlib.Omega.{arith}
-use lib.Dec.{eqb, ltb}
+use lib.Dec.{eqb}
 use lib.ListN.{length}
-use Rattle.std.specs.declared.option.Option.{Option}
 use Rattle.std.specs.declared.option.Option.the-variants.{None, Some}
-use Rattle.std.proofs.shelf.Tests.{cases-bool, cond-both, cond-true, cond-false, both-ways, ne-eqb, eqb-true, and-parts, or-from, not-from-true}
+use Rattle.std.proofs.shelf.Tests.{cond-both, cond-false, both-ways, ne-eqb, eqb-true, and-parts, or-from, not-from-true}
 use Rattle.rules.specs.declared.rule.Rule.{Rule}
 use Rattle.rules.specs.declared.refusal.Refusal.{Refusal}
-use Rattle.rules.specs.declared.refusal.Refusal.the-variants.{Busy, Mangled, Known, Tied, Crossed, NoSlot}
-use Rattle.rules.specs.Kinds.{KindMeaning, KindLaws}
-use Rattle.shifting.specs.Chains.{some-below}
-use Rattle.shifting.specs.Slots.{Slot, at, usable, meets, level, tied, crossed, no-slot, jump-chain, DownwardChain}
-use Rattle.shifting.specs.Machine.{Ticket, Call, add, Answer, opened, counted, refused, Job, State, Fixed, Turn, number-in, refuse, when-idle, open-add, try-add, turn}
+use Rattle.rules.specs.declared.refusal.Refusal.the-variants.{Crossed, NoSlot}
+use Rattle.rules.specs.Kinds.{KindLaws}
+use Rattle.shifting.specs.Slots.{Slot, at, usable, meets, level, tied, crossed, no-slot, jump-chain}
+use Rattle.shifting.specs.Machine.{Ticket, add, opened, refused, State, Fixed, Turn, number-in, refuse, when-idle, open-add, try-add, turn}
 use Rattle.shifting.specs.Law.{In, NewUntied, Refuses, NoChain}
 use Rattle.shifting.proofs.Scans.{some-below-hit}
 use Rattle.shifting.proofs.Settled.{Settled}

@@ -1,24 +1,21 @@
 -- What code that serves a board cites: the machine's events one by one, its chain by places, its tests by slots, and runs with one call more.
 -- Assumes nothing.
-use mathlib.Core.Path.{_≡_, refl, ap, sym, subst, _∙_}
-use mathlib.Core.Bool.{Bool, true, false}
+use mathlib.Core.Path.{_≡_, refl, ap, sym, _∙_}
+use mathlib.Core.Bool.{true}
 use mathlib.Core.List.{List, [], _∷_, _++_, reverse}
-use mathlib.Core.Logic.{_⊎_, inl, inr, ⊎-elim}
+use mathlib.Core.Logic.{inl, inr, ⊎-elim}
 use Prim.Native.Nat.{ℕ, zero, suc, _+_, _-_, _≤_, _<_}
 use native.Mathlib.Omega.{arith}
 use lib.Dec.{eqb, ltb}
 use lib.ListN.{length, getD, set, take, drop}
 use Rattle.std.specs.shelf.Lists.{All}
-use Rattle.std.specs.Orderings.{Decides}
-use Rattle.std.specs.declared.option.Option.{Option}
-use Rattle.std.specs.declared.option.Option.the-variants.{None, Some}
+use Rattle.std.specs.declared.option.Option.the-variants.{Some}
 use Rattle.std.proofs.shelf.Tests.{ltb-true, lt-ltb, eqb-true, eq-eqb, or-cases}
 use Rattle.std.proofs.shelf.Lists.{getD-reverse, length-reverse, drop-all, drop-more}
 use Rattle.std.proofs.shelf.Ways.{same-from-decides}
 use Rattle.rules.specs.declared.rule.Rule.{Rule}
 use Rattle.rules.specs.declared.event.Event.{Event}
 use Rattle.rules.specs.Kinds.{KindLaws}
-use Rattle.shifting.specs.Chains.{scan}
 use Rattle.shifting.specs.Slots.{Slot, at, carried-out, all-carried-out}
 use Rattle.shifting.specs.Machine.{Call, Job, State, Fixed, all-traced, received, writes, unwritten, last-written, number-in, has-number, place, cleared, turn, after}
 use Rattle.shifting.specs.Law.{In, Sized, LawOfRun}

@@ -1,13 +1,11 @@
 -- Slots that hold the rules in force, in the right order, and what a copy, a move and a new rule leave of that. Assumes nothing.
 use mathlib.Core.Path.{_≡_, refl, ap, sym, _∙_}
-use mathlib.Core.Bool.{Bool, true, false}
+use mathlib.Core.Bool.{true, false}
 use mathlib.Core.List.{List, [], _∷_}
 use mathlib.Core.Logic.{_⊎_, inl, inr, ⊎-elim, _≢_}
-use Prim.Native.Nat.{ℕ, zero, suc, _+_, _≤_, _<_, min}
+use Prim.Native.Nat.{ℕ, suc, _<_, min}
 use native.Mathlib.Omega.{arith}
-use lib.Dec.{eqb}
 use lib.ListN.{length, set}
-use Rattle.std.specs.declared.option.Option.{Option}
 use Rattle.std.specs.declared.option.Option.the-variants.{None, Some}
 use Rattle.std.proofs.shelf.Tests.{cases-eq, cases-order, both-ways, eq-eqb, or-left, or-right}
 use Rattle.std.proofs.shelf.Lists.{length-set}
@@ -17,7 +15,7 @@ use Rattle.rules.proofs.Meeting.{meets-symmetric}
 use Rattle.shifting.specs.Slots.{Slot, at, taken, usable, meets, Over}
 use Rattle.shifting.specs.Machine.{number-in}
 use Rattle.shifting.specs.Law.{In, Worded}
-use Rattle.shifting.proofs.Reading.{none-some, some-same, at-within, set-read, set-here, set-there, moved-to, move-read, taken-more, taken-less}
+use Rattle.shifting.proofs.Reading.{none-some, some-same, set-read, set-here, set-there, moved-to, move-read, taken-more, taken-less}
 use Rattle.shifting.proofs.Order.{Right, Fits, Link, Back, write-keeps, erase-keeps, link-fits, carry}
 
 pub usable-set : (slots : List Slot) (c : ℕ) (slot : Slot) → usable (set slots c slot) ≡ usable slots

@@ -10,24 +10,22 @@ use lib.ListN.{length, getD, set, take, drop}
 use Rattle.std.specs.declared.option.Option.{Option}
 use Rattle.std.specs.declared.option.Option.the-variants.{None, Some}
 use Rattle.std.specs.shelf.Lists.{All}
-use Rattle.std.proofs.shelf.Tests.{cases-eq, cases-lt, cases-bool, cond-both, cond-true, cond-false, both-ways, eq-eqb, ne-eqb, eqb-true, eqb-false, lt-ltb, le-ltb, ltb-true, ltb-false, and-from, and-left, and-right, and-parts, and-cases, or-parts, not-false, not-true}
+use Rattle.std.proofs.shelf.Tests.{cases-eq, cases-lt, cond-both, cond-true, cond-false, both-ways, eq-eqb, ne-eqb, eqb-true, eqb-false, lt-ltb, le-ltb, ltb-true, ltb-false, and-from, and-right, and-parts, and-cases, or-parts, not-false}
 use Rattle.std.proofs.shelf.Lists.{length-set, length-drop, length-reverse, getD-past}
 use Rattle.rules.specs.declared.rule.Rule.{Rule}
 use Rattle.rules.specs.declared.event.Event.{Event}
 use Rattle.rules.specs.declared.event.Event.the-variants.{Write, Erase}
-use Rattle.rules.specs.declared.refusal.Refusal.{Refusal}
-use Rattle.rules.specs.declared.refusal.Refusal.the-variants.{Busy, Mangled, Known, Tied, Crossed, NoSlot, Unknown, Misdialled, Foreign, RunOut}
-use Rattle.rules.specs.Kinds.{KindMeaning, KindLaws}
-use Rattle.shifting.specs.Chains.{scan, some-below}
-use Rattle.shifting.specs.Slots.{Slot, at, taken, usable, meets, level, tied, crossed, no-slot, jump-chain, carried-out, all-carried-out, first-match}
+use Rattle.rules.specs.declared.refusal.Refusal.the-variants.{Foreign, RunOut}
+use Rattle.rules.specs.Kinds.{KindLaws}
+use Rattle.shifting.specs.Slots.{Slot, at, taken, usable, meets, level, tied, crossed, no-slot, jump-chain, carried-out, all-carried-out}
 use Rattle.shifting.specs.Machine.{Ticket, Call, add, step, complete, withdraw, drop-rule, change-action, look-up, Job, State, Fixed, Turn, has-number, held, received, writes, unwritten, written, half-way, last-written}
-use Rattle.shifting.specs.Machine.{number-in, without, with-action, changed, refuse, when-idle, names, when-named, open-add, try-add, make-one, make-all, take-back, place, when-standing, erase-rule, rewrite-rule, turn, after, erases, cleared, told}
+use Rattle.shifting.specs.Machine.{with-action, changed, refuse, when-idle, names, when-named, open-add, try-add, make-one, make-all, take-back, place, turn, after, erases, cleared}
 use Rattle.shifting.specs.Law.{In, Worded, Sized, copies}
-use Rattle.shifting.proofs.Reading.{none-some, some-same, set-here, set-there}
+use Rattle.shifting.proofs.Reading.{none-some, set-here, set-there}
 use Rattle.shifting.proofs.Scans.{scan-hit, some-below-none}
-use Rattle.shifting.proofs.Settled.{Ruled, Stocked, Settled, Fresh}
-use Rattle.shifting.proofs.Spans.{Reversed, chain-reversed, jump-shortest-chain}
-use Rattle.shifting.proofs.Progress.{Good, settled-good, with-new, with-all, Start, Mid, Going, mid-erased, advance, going-good, going-written, writes-good, writes-settled}
+use Rattle.shifting.proofs.Settled.{Settled, Fresh}
+use Rattle.shifting.proofs.Spans.{chain-reversed, jump-shortest-chain}
+use Rattle.shifting.proofs.Progress.{Good, settled-good, with-new, with-all, Mid, Going, mid-erased, advance, going-good, going-written, writes-good, writes-settled}
 use Rattle.shifting.proofs.Turns.{by-add, slots-by-events}
 use Rattle.shifting.proofs.Renewing.{dropped, renewed-settled}
 

@@ -2,30 +2,27 @@
 use mathlib.Core.Path.{_≡_, refl, ap, sym, _∙_}
 use mathlib.Core.Bool.{Bool, true, false, not, _&&_}
 use mathlib.Core.List.{List, [], _∷_, reverse, reverseAux}
-use mathlib.Core.Logic.{_⊎_, inl, inr, ⊎-elim, _≢_}
-use Prim.Native.Nat.{ℕ, zero, suc, _+_, _-_, _≤_, _<_, min}
+use mathlib.Core.Logic.{⊎-elim}
+use Prim.Native.Nat.{ℕ, suc, _-_, _≤_, _<_}
 use native.Mathlib.Omega.{arith}
-use lib.Dec.{eqb, ltb}
-use lib.ListN.{length, set}
-use Rattle.std.specs.declared.option.Option.{Option}
+use lib.ListN.{length}
 use Rattle.std.specs.declared.option.Option.the-variants.{None, Some}
-use Rattle.std.proofs.shelf.Tests.{cases-lt, cases-bool, both-ways, and-from, and-parts, lt-ltb, le-ltb, ltb-true, ltb-false, ne-eqb, not-from-false, not-true, not-false, not-from-true, eqb-true}
+use Rattle.std.proofs.shelf.Tests.{cases-lt, cases-bool, both-ways, and-from, and-parts, lt-ltb, ltb-true, ltb-false, ne-eqb, not-from-false, not-true, not-false}
 use Rattle.rules.specs.declared.rule.Rule.{Rule}
 use Rattle.rules.specs.Kinds.{KindMeaning, KindLaws}
 use Rattle.rules.proofs.Meeting.{meets-symmetric}
-use Rattle.shifting.specs.Chains.{scan, past, some-below, Chain, jump}
-use Rattle.shifting.specs.Slots.{Slot, at, empty, taken, usable, meets, Over, above, below, level, clashes, is-empty, low, high, InSpan, crossed, tied, no-slot, reach, DownwardChain, jump-chain}
-use Rattle.shifting.specs.Law.{In, Worded, JumpRule}
-use Rattle.shifting.proofs.Reading.{none-some, some-same, at-within}
-use Rattle.shifting.proofs.Scans.{scan-low, scan-high, scan-before, scan-hit, scan-first, past-high, past-last, past-hit, some-below-from, some-below-none, some-below-hit}
+use Rattle.shifting.specs.Chains.{scan, some-below, Chain}
+use Rattle.shifting.specs.Slots.{Slot, at, holds, usable, meets, above, below, clashes, is-empty, low, high, InSpan, crossed, no-slot, reach, DownwardChain, jump-chain}
+use Rattle.shifting.specs.Law.{Worded, JumpRule}
+use Rattle.shifting.proofs.Scans.{scan-low, scan-before, scan-hit, scan-first, past-high, past-last, past-hit, some-below-from, some-below-hit}
 use Rattle.shifting.proofs.Jumps.{Shortest, jump-shortest}
-use Rattle.shifting.proofs.Settled.{FitsIn, LinkDown, BackChain, Fine, Stocked}
+use Rattle.shifting.proofs.Settled.{FitsIn, LinkDown, BackChain}
 
-pub filled-rule : (slot : Slot) → empty slot ≡ false → (rule : Rule) × (slot ≡ Some rule)
+pub filled-rule : (slot : Slot) → not (holds (λ rule. true) slot) ≡ false → (rule : Rule) × (slot ≡ Some rule)
 filled-rule None filled = absurd (both-ways true filled refl)
 filled-rule (Some rule) filled = (rule, refl)
 
-pub empty-none : (slot : Slot) → empty slot ≡ true → slot ≡ None
+pub empty-none : (slot : Slot) → not (holds (λ rule. true) slot) ≡ true → slot ≡ None
 empty-none None free = refl
 empty-none (Some rule) free = absurd (both-ways false refl free)
 

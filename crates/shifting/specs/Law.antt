@@ -1,21 +1,20 @@
 -- The law of runs: what holds of every call in every list of calls from a cleared board. Assumes nothing.
 use mathlib.Core.Path.{_≡_}
-use mathlib.Core.Bool.{Bool, true, false, cond}
+use mathlib.Core.Bool.{true, false, cond}
 use mathlib.Core.List.{List, [], _∷_, _++_}
 use mathlib.Core.Logic.{_⊎_, _≢_}
-use Prim.Native.Nat.{ℕ, zero, suc, _+_, _≤_}
+use Prim.Native.Nat.{ℕ, _+_, _≤_}
 use lib.Dec.{ltb}
 use lib.ListN.{length, take}
 use Rattle.std.specs.shelf.Lists.{All}
 use Rattle.std.specs.declared.option.Option.{Option}
 use Rattle.std.specs.declared.option.Option.the-variants.{None, Some}
 use Rattle.rules.specs.declared.rule.Rule.{Rule}
-use Rattle.rules.specs.declared.event.Event.{Event}
 use Rattle.rules.specs.declared.refusal.Refusal.{Refusal}
 use Rattle.rules.specs.Kinds.{KindMeaning, KindLaws, Word}
-use Rattle.shifting.specs.Slots.{Slot, at, taken, all-carried-out, matches, meets, RightOrder, DownwardChain, jump-chain, first-match}
+use Rattle.shifting.specs.Slots.{Slot, taken, all-carried-out, matches, meets, RightOrder, DownwardChain, jump-chain, first-match}
 use Rattle.shifting.specs.Machine.{Ticket, Call, add, step, complete, withdraw, drop-rule, change-action, look-up}
-use Rattle.shifting.specs.Machine.{Answer, opened, counted, done, found, refused, Job, State, Fixed, cleared, half-way, told, all-traced, turn, after}
+use Rattle.shifting.specs.Machine.{opened, counted, refused, Job, State, Fixed, cleared, half-way, told, all-traced, turn, after}
 
 -- one of a list of rules
 abbrev pub In : Rule → List Rule → Type 0
@@ -51,17 +50,17 @@ copies (Some job) more = cond (half-way (record { rule = job .rule; chain = job 
 
 module _ (fixed : Fixed) where
   -- a complete or a withdraw that takes its ticket
-  abbrev pub Takes-ticket : State → Call → Type 0
-  Takes-ticket state call = (ticket : Ticket) × (n : ℕ) × ((call ≡ complete ticket) ⊎ (call ≡ withdraw ticket)) × (turn fixed state call .answer ≡ counted n)
+  abbrev pub TakesTicket : State → Call → Type 0
+  TakesTicket state call = (ticket : Ticket) × (n : ℕ) × ((call ≡ complete ticket) ⊎ (call ≡ withdraw ticket)) × (turn fixed state call .answer ≡ counted n)
 
   -- the open add stays open, whatever calls these are
-  abbrev pub Stays-open : State → List Call → Type 0
-  Stays-open state [] = Unit {0}
-  Stays-open state (call ∷ calls) = (Takes-ticket state call → ⊥) × Stays-open (turn fixed state call .next) calls
+  abbrev pub StaysOpen : State → List Call → Type 0
+  StaysOpen state [] = Unit {0}
+  StaysOpen state (call ∷ calls) = (TakesTicket state call → ⊥) × StaysOpen (turn fixed state call .next) calls
 
   -- an add is carried through by a step that answers 0, or by a complete that takes its ticket
-  abbrev pub Carries-through : State → Call → Type 0
-  Carries-through state call =
+  abbrev pub CarriesThrough : State → Call → Type 0
+  CarriesThrough state call =
       ((ticket : Ticket) × (call ≡ step ticket) × (turn fixed state call .answer ≡ counted 0))
       ⊎ ((ticket : Ticket) × (n : ℕ) × (call ≡ complete ticket) × (turn fixed state call .answer ≡ counted n))
 
@@ -112,8 +111,8 @@ module _ (fixed : Fixed) where
       pub downward : DownwardChain (fixed .kind) (state .slots) new chain
       pub announced : ticket .length ≡ length chain
       pub shortest : (other : List ℕ) → DownwardChain (fixed .kind) (state .slots) new other → ticket .length ≤ length other
-      pub carried-through : (between : List Call) (last : Call) → Stays-open (turn fixed state call .next) between
-          → Carries-through (after fixed (turn fixed state call .next) between) last
+      pub carried-through : (between : List Call) (last : Call) → StaysOpen (turn fixed state call .next) between
+          → CarriesThrough (after fixed (turn fixed state call .next) between) last
           → writes-made (turn fixed state call .next) (between ++ last ∷ []) ≡ ticket .length
 
     -- the first match after some events is the answer of the rules that are then in force, and they have no other

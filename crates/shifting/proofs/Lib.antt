@@ -3,6 +3,7 @@ pub mod Jumps
 pub mod Reading
 pub mod Order
 pub mod Settled
+pub mod Directions
 pub mod Spans
 pub mod Answering
 pub mod Progress

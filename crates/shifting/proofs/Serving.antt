@@ -17,8 +17,8 @@ use Rattle.rules.specs.declared.rule.Rule.{Rule}
 use Rattle.rules.specs.declared.event.Event.{Event}
 use Rattle.rules.specs.Kinds.{KindLaws}
 use Rattle.shifting.specs.Slots.{Slot, at, carried-out, all-carried-out}
-use Rattle.shifting.specs.Machine.{Call, Job, State, Fixed, all-traced, received, writes, unwritten, last-written, number-in, has-number, place, cleared, turn, after}
-use Rattle.shifting.specs.Law.{In, Sized, LawOfRun}
+use Rattle.shifting.specs.Machine.{Call, add, step, complete, withdraw, drop-rule, change-action, look-up, Job, State, Fixed, all-traced, received, writes, unwritten, last-written, number-in, has-number, place, cleared, turn, after}
+use Rattle.shifting.specs.Law.{In, Worded, Sized, LawOfRun}
 use Rattle.shifting.proofs.Reading.{at-within}
 use Rattle.shifting.proofs.Scans.{scan-first, scan-hit}
 use Rattle.shifting.proofs.Settled.{Settled, in-number}
@@ -103,3 +103,22 @@ led-sound fixed laws slots trace calls sized = sound-after fixed laws calls (cle
 pub law-push : (fixed : Fixed) → KindLaws (fixed .kind) → (slots : List Slot) (trace : ℕ) (calls : List Call) (call : Call) → All Sized calls → Sized call
     → LawOfRun fixed slots trace (calls ++ call ∷ [])
 law-push fixed laws slots trace calls call sized one = law-of-runs fixed laws slots trace (calls ++ call ∷ []) (sized-push calls call sized one)
+
+-- what is to be shown of a call that it is sized
+abbrev pub Brings : Call → Type 0
+Brings (add new) = Worded new
+Brings (step ticket) = Unit {0}
+Brings (complete ticket) = Unit {0}
+Brings (withdraw ticket) = Unit {0}
+Brings (drop-rule number) = Unit {0}
+Brings (change-action number action) = Unit {0}
+Brings (look-up subject) = Unit {0}
+
+pub sized-from : (call : Call) → Brings call → Sized call
+sized-from (add rule) words new same = let is : rule ≡ new = cc in rw (← is) words
+sized-from (step ticket) words new same = absurd (let z : _≡_ {A = ℕ} 0 1 = cc in omega arith)
+sized-from (complete ticket) words new same = absurd (let z : _≡_ {A = ℕ} 0 1 = cc in omega arith)
+sized-from (withdraw ticket) words new same = absurd (let z : _≡_ {A = ℕ} 0 1 = cc in omega arith)
+sized-from (drop-rule number) words new same = absurd (let z : _≡_ {A = ℕ} 0 1 = cc in omega arith)
+sized-from (change-action number action) words new same = absurd (let z : _≡_ {A = ℕ} 0 1 = cc in omega arith)
+sized-from (look-up subject) words new same = absurd (let z : _≡_ {A = ℕ} 0 1 = cc in omega arith)

@@ -16,7 +16,8 @@ use Rattle.shifting.specs.Slots.{Slot, at, holds, usable, meets, above, below,
 use Rattle.shifting.specs.Law.{Worded, JumpRule}
 use Rattle.shifting.proofs.Scans.{scan-low, scan-before, scan-hit, scan-first, past-high, past-last, past-hit, some-below-from, some-below-hit}
 use Rattle.shifting.proofs.Jumps.{Shortest, jump-shortest}
-use Rattle.shifting.proofs.Settled.{FitsIn, LinkDown, BackChain}
+use Rattle.shifting.proofs.Settled.{FitsIn}
+use Rattle.shifting.proofs.Directions.{LinkDown, BackChain}
 
 pub filled-rule : (slot : Slot) → not (holds (λ rule. true) slot) ≡ false → (rule : Rule) × (slot ≡ Some rule)
 filled-rule None filled = absurd (both-ways true filled refl)

@@ -1,9 +1,9 @@
 -- The first match in slots that hold the rules in order is the one answer of the rules. The chain is not looked at. Assumes nothing.
 use mathlib.Core.Path.{_≡_, refl, ap, sym, _∙_}
-use mathlib.Core.Bool.{Bool, true, false}
-use mathlib.Core.List.{List, [], _∷_}
-use mathlib.Core.Logic.{_⊎_, inl, inr, ⊎-elim}
-use Prim.Native.Nat.{ℕ, _≤_, _<_}
+use mathlib.Core.Bool.{Bool, true}
+use mathlib.Core.List.{List}
+use mathlib.Core.Logic.{⊎-elim}
+use Prim.Native.Nat.{ℕ, _≤_}
 use native.Mathlib.Omega.{arith}
 use lib.ListN.{length}
 use Rattle.std.specs.declared.option.Option.{Option}
@@ -15,8 +15,8 @@ use Rattle.rules.proofs.Meeting.{matched-meet}
 use Rattle.shifting.specs.Chains.{scan}
 use Rattle.shifting.specs.Slots.{Slot, at, matches, slot-matches, meets, Over, first-match}
 use Rattle.shifting.specs.Machine.{told}
-use Rattle.shifting.specs.Law.{In, Best, Answers}
-use Rattle.shifting.proofs.Reading.{none-some, at-within}
+use Rattle.shifting.specs.Law.{In, Answers}
+use Rattle.shifting.proofs.Reading.{at-within}
 use Rattle.shifting.proofs.Scans.{scan-first, scan-hit}
 use Rattle.shifting.proofs.Settled.{Ruled, Stocked, same-rule}
 

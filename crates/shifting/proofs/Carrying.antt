@@ -1,21 +1,20 @@
 -- An open add is carried through by as many writes as its chain has slots, whatever other calls come between. Assumes nothing.
 use mathlib.Core.Path.{_≡_, refl, ap, sym, subst, _∙_}
-use mathlib.Core.Bool.{Bool, true, false, cond}
+use mathlib.Core.Bool.{false, cond}
 use mathlib.Core.List.{List, [], _∷_, _++_, reverse}
-use mathlib.Core.Logic.{_⊎_, inl, inr, ⊎-elim}
-use Prim.Native.Nat.{ℕ, zero, suc, _+_, _-_, _≤_, _<_}
+use mathlib.Core.Logic.{inl, inr, ⊎-elim}
+use Prim.Native.Nat.{ℕ, suc, _+_, _-_, _≤_, _<_}
 use native.Mathlib.Omega.{arith}
-use lib.Dec.{eqb}
-use lib.ListN.{length, take, drop}
+use lib.ListN.{length, take}
 use Rattle.std.specs.declared.option.Option.{Option}
-use Rattle.std.specs.declared.option.Option.the-variants.{None, Some}
+use Rattle.std.specs.declared.option.Option.the-variants.{Some}
 use Rattle.std.proofs.shelf.Tests.{cond-both, eqb-false}
 use Rattle.std.proofs.shelf.Lists.{length-drop, length-reverse}
 use Rattle.rules.specs.declared.refusal.Refusal.{Refusal}
-use Rattle.rules.specs.declared.refusal.Refusal.the-variants.{Busy, Foreign, RunOut, Misdialled}
-use Rattle.shifting.specs.Machine.{Call, add, step, complete, withdraw, drop-rule, change-action, look-up, Ticket, Answer, counted, refused, Job, State, Fixed, Turn}
+use Rattle.rules.specs.declared.refusal.Refusal.the-variants.{Foreign, RunOut}
+use Rattle.shifting.specs.Machine.{Call, add, step, complete, withdraw, drop-rule, change-action, look-up, Ticket, counted, refused, Job, State, Fixed, Turn}
 use Rattle.shifting.specs.Machine.{refuse, when-idle, names, when-named, make-one, make-all, take-back, written, writes, unwritten, turn, after}
-use Rattle.shifting.specs.Law.{Takes-ticket, Stays-open, Carries-through, writes-of, writes-made}
+use Rattle.shifting.specs.Law.{TakesTicket, StaysOpen, CarriesThrough, writes-of, writes-made}
 use Rattle.shifting.proofs.Turns.{by-named, by-step}
 use Rattle.shifting.proofs.Sound.{length-writes}
 
@@ -55,7 +54,7 @@ module _ (fixed : Fixed) where
     same-open : (one : Job) → state .job ≡ Some one → one ≡ job
     same-open one is = let both : _≡_ {A = Option Job} (Some one) (Some job) = sym is ∙ is-open in cc
 
-    kept : (call : Call) → (Takes-ticket fixed state call → ⊥) → Kept job (writes-of fixed state call) (turn fixed state call .next .job)
+    kept : (call : Call) → (TakesTicket fixed state call → ⊥) → Kept job (writes-of fixed state call) (turn fixed state call .next .job)
     kept (add new) stays = busy-kept _
     kept (step ticket) stays =
         subst (λ open-add. (λ (done : Turn). Kept job (length (done .events)) (done .next .job)) (when-named fixed state ticket open-add (λ one. cond (written one) (refuse fixed state RunOut) (make-one fixed state one))))
@@ -109,7 +108,7 @@ module _ (fixed : Fixed) where
         Ends : Turn → Type 0
         Ends made = made .answer ≡ counted n → job .made + length (made .events) ≡ length (job .chain)
 
-    closing : (call : Call) → Carries-through fixed state call → job .made + writes-of fixed state call ≡ length (job .chain)
+    closing : (call : Call) → CarriesThrough fixed state call → job .made + writes-of fixed state call ≡ length (job .chain)
     closing call carries =
         ⊎-elim
         (λ by-a-step.
@@ -119,8 +118,8 @@ module _ (fixed : Fixed) where
         (last-complete (by-complete .0) (by-complete .1)) (by-complete .3))
         carries
 
-  pub carried-through : (between : List Call) (state : State) (job : Job) → state .job ≡ Some job → job .made ≤ length (job .chain) → (last : Call) → Stays-open fixed state between
-      → Carries-through fixed (after fixed state between) last → job .made + writes-made fixed state (between ++ last ∷ []) ≡ length (job .chain)
+  pub carried-through : (between : List Call) (state : State) (job : Job) → state .job ≡ Some job → job .made ≤ length (job .chain) → (last : Call) → StaysOpen fixed state between
+      → CarriesThrough fixed (after fixed state between) last → job .made + writes-made fixed state (between ++ last ∷ []) ≡ length (job .chain)
   carried-through [] state job is-open short last stays carries = omega (arith, closing state job is-open short last carries)
   carried-through (call ∷ between) state job is-open short last stays carries =
       let step-kept = kept state job is-open short call (stays .0) in

@@ -1,17 +1,17 @@
 -- The jump rule gives a chain when there is one, and no chain is shorter. It sees which slots are empty, and a reach, with
 -- three laws: a reach is no later than the last slot, no earlier than its own, and later than that before the last slot.
 -- Assumes nothing.
-use mathlib.Core.Path.{_≡_, refl, ap, sym, _∙_}
-use mathlib.Core.Bool.{Bool, true, false, cond}
+use mathlib.Core.Path.{_≡_, refl}
+use mathlib.Core.Bool.{Bool, true, false}
 use mathlib.Core.List.{List, [], _∷_}
-use mathlib.Core.Logic.{_⊎_, ⊎-elim}
+use mathlib.Core.Logic.{⊎-elim}
 use Prim.Native.Nat.{ℕ, zero, suc, _+_, _-_, _≤_, _<_}
 use native.Mathlib.Omega.{arith}
 use lib.Dec.{leb}
 use lib.ListN.{length}
 use Rattle.std.proofs.shelf.Tests.{cond-both, cases-lt, both-ways, leb-true, leb-false}
 use Rattle.shifting.specs.Chains.{scan, farthest, Chain, jump}
-use Rattle.shifting.proofs.Scans.{scan-low, scan-high, scan-before, scan-hit, farthest-low, farthest-high, farthest-reach}
+use Rattle.shifting.proofs.Scans.{scan-low, scan-before, scan-hit, farthest-low, farthest-high, farthest-reach}
 
 module _ (empty : ℕ → Bool) (reach : ℕ → ℕ) where
   -- a chain that starts between low and high, and no longer than any chain that starts between base and high

@@ -1,25 +1,24 @@
 -- The six parts of the law, of every call of every run. Assumes nothing.
-use mathlib.Core.Path.{_≡_, refl, ap, sym, subst, _∙_}
+use mathlib.Core.Path.{_≡_, refl, sym, subst}
 use mathlib.Core.Bool.{Bool, true, false, cond}
 use mathlib.Core.List.{List, [], _∷_, _++_}
-use mathlib.Core.Logic.{_⊎_, inl, inr, ⊎-elim}
-use Prim.Native.Nat.{ℕ, zero, suc, _+_, _≤_, _<_}
+use Prim.Native.Nat.{ℕ}
 use native.Mathlib.Omega.{arith}
 use lib.Dec.{ltb}
-use lib.ListN.{length, take}
-use Rattle.std.specs.declared.option.Option.{Option}
+use lib.ListN.{length}
 use Rattle.std.specs.declared.option.Option.the-variants.{None, Some}
+use Rattle.std.specs.shelf.Lists.{All}
 use Rattle.std.proofs.shelf.Tests.{cond-both, ltb-true, ltb-false}
 use Rattle.std.proofs.shelf.Lists.{take-all}
 use Rattle.rules.specs.declared.rule.Rule.{Rule}
 use Rattle.rules.specs.declared.event.Event.{Event}
 use Rattle.rules.specs.declared.refusal.Refusal.{Refusal}
-use Rattle.rules.specs.declared.refusal.Refusal.the-variants.{Busy, Unknown, Foreign, RunOut, Misdialled}
-use Rattle.rules.specs.Kinds.{KindMeaning, KindLaws}
-use Rattle.shifting.specs.Slots.{Slot, all-carried-out, jump-chain, first-match}
-use Rattle.shifting.specs.Machine.{Ticket, Call, add, step, complete, withdraw, drop-rule, change-action, look-up, Answer, opened, counted, done, found, refused, Job, State, Fixed, Turn}
-use Rattle.shifting.specs.Machine.{refuse, when-idle, names, when-named, when-standing, erase-rule, rewrite-rule, open-add, try-add, make-one, make-all, take-back, written, told, turn, after, cleared}
-use Rattle.shifting.specs.Law.{Sized, All-sized, LawOfRuns, Lawful, Announced, Answered, ByEvents, slots-at, rules-at, copies-at, copies}
+use Rattle.rules.specs.declared.refusal.Refusal.the-variants.{RunOut}
+use Rattle.rules.specs.Kinds.{KindLaws}
+use Rattle.shifting.specs.Slots.{Slot, all-carried-out, jump-chain}
+use Rattle.shifting.specs.Machine.{Ticket, Call, add, step, complete, withdraw, drop-rule, change-action, look-up, opened, counted, done, refused, Job, State, Fixed, Turn}
+use Rattle.shifting.specs.Machine.{refuse, when-idle, when-standing, erase-rule, rewrite-rule, try-add, make-one, make-all, take-back, written, turn, after, cleared}
+use Rattle.shifting.specs.Law.{Sized, LawOfRuns, Lawful, Announced, slots-at, rules-at, copies-at, copies}
 use Rattle.shifting.proofs.Settled.{Settled}
 use Rattle.shifting.proofs.Progress.{Good}
 use Rattle.shifting.proofs.Answering.{first-match-answers, only-answer}
@@ -56,7 +55,7 @@ module _ (fixed : Fixed) (laws : KindLaws (fixed .kind)) (state : State) (sound 
       (λ answer.
       let how = opens fixed laws state new ticket answer in
       let chain = jump-chain (fixed .kind) (state .slots) new in
-      let shortest = jump-shortest-chain (fixed .kind) laws (state .slots) new (how .straight) (how .has-slot) in
+      let shortest = jump-shortest-chain (fixed .kind) (state .slots) new (how .straight) (how .has-slot) in
       let job : Job = record { rule = new; chain = chain; made = 0 } in
       record {
         chain = chain;
@@ -135,7 +134,7 @@ module _ (fixed : Fixed) (laws : KindLaws (fixed .kind)) (state : State) (sound 
         };
       }
 
-sized-parts : (before : List Call) (call : Call) (rest : List Call) → All-sized (before ++ call ∷ rest) → All-sized before × Sized call
+sized-parts : (before : List Call) (call : Call) (rest : List Call) → All Sized (before ++ call ∷ rest) → All Sized before × Sized call
 sized-parts [] call rest sized = (tt, sized .0)
 sized-parts (first ∷ before) call rest sized =
     let parts = sized-parts before call rest (sized .1) in
@@ -144,5 +143,5 @@ sized-parts (first ∷ before) call rest sized =
 pub law-of-runs : LawOfRuns
 law-of-runs fixed laws slots trace calls sized before call rest are =
     let start = cleared fixed slots trace in
-    let parts = sized-parts before call rest (subst All-sized are sized) in
+    let parts = sized-parts before call rest (subst (All Sized) are sized) in
     lawful fixed laws (after fixed start before) (sound-after fixed laws before start (parts .0) (cleared-sound fixed laws slots trace)) call (parts .1)

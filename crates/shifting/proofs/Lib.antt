@@ -3,6 +3,7 @@ pub mod Jumps
 pub mod Reading
 pub mod Order
 pub mod Settled
+pub mod Directions
 pub mod Spans
 pub mod Answering
 pub mod Progress
@@ -12,3 +13,4 @@ pub mod Sound
 pub mod Carrying
 pub mod Refusing
 pub mod Lawful
+pub mod Serving

@@ -1,11 +1,10 @@
 -- A single write keeps the order. All that is used of the slots is a strict order of them, and of the rules that no rule is above itself:
 -- so the argument also serves slots in the reverse order. Assumes nothing.
-use mathlib.Core.Path.{_≡_, refl, ap, sym, _∙_}
+use mathlib.Core.Path.{_≡_, _∙_}
 use mathlib.Core.List.{List, [], _∷_}
-use mathlib.Core.Logic.{_⊎_, inl, inr, ⊎-elim}
-use Prim.Native.Nat.{ℕ, zero, suc, _<_}
-use lib.ListN.{length, set}
-use Rattle.std.specs.declared.option.Option.{Option}
+use mathlib.Core.Logic.{_⊎_, ⊎-elim}
+use Prim.Native.Nat.{ℕ}
+use lib.ListN.{set}
 use Rattle.std.specs.declared.option.Option.the-variants.{None, Some}
 use Rattle.rules.specs.declared.rule.Rule.{Rule}
 use Rattle.shifting.specs.Slots.{Slot, at}

@@ -1,23 +1,24 @@
 -- An open add on its way, write by write. Between two writes the slots are those of a settled board with one slot more, the gap,
 -- into which a copy was put: the rest of the chain, named from its end, is a chain of that board. Assumes nothing.
-use mathlib.Core.Path.{_≡_, refl, ap, ap₂, sym, _∙_}
-use mathlib.Core.Bool.{Bool, true, false, cond}
+use mathlib.Core.Path.{_≡_, refl, ap, sym, _∙_}
+use mathlib.Core.Bool.{cond}
 use mathlib.Core.List.{List, [], _∷_}
-use mathlib.Core.Logic.{_⊎_, inl, inr, ⊎-elim}
-use Prim.Native.Nat.{ℕ, zero, suc, _+_, _≤_, _<_}
+use mathlib.Core.Logic.{_⊎_, inr, ⊎-elim}
+use Prim.Native.Nat.{ℕ, zero, suc, _+_, _<_}
 use native.Mathlib.Omega.{arith}
 use lib.Dec.{ltb}
 use lib.ListN.{length, set, take}
-use Rattle.std.specs.declared.option.Option.{Option}
 use Rattle.std.specs.declared.option.Option.the-variants.{None, Some}
-use Rattle.std.proofs.shelf.Tests.{lt-ltb, cond-true}
+use Rattle.std.proofs.shelf.Tests.{lt-ltb}
 use Rattle.std.proofs.shelf.Lists.{length-set, set-set, set-getD}
 use Rattle.rules.specs.declared.rule.Rule.{Rule}
 use Rattle.rules.specs.Kinds.{KindMeaning, KindLaws}
 use Rattle.shifting.specs.Slots.{Slot, at, taken, usable, all-carried-out}
 use Rattle.shifting.specs.Machine.{held, received, writes}
-use Rattle.shifting.proofs.Reading.{at-within, set-here, set-there, moved-to}
-use Rattle.shifting.proofs.Settled.{BackChain, Ruled, Stocked, Settled, Fresh, usable-set, carry-back, copied, copied-count, moved, joined}
+use Rattle.shifting.proofs.Reading.{at-within, set-here, set-there}
+use Rattle.shifting.proofs.Order.{Link, Back, link-fits, carry}
+use Rattle.shifting.proofs.Settled.{FitsIn, Ruled, Stocked, Settled, Fresh, usable-set, copied, copied-count, moved, joined}
+use Rattle.shifting.proofs.Directions.{Direction}
 
 -- what holds inside a call as well: the slots hold the rules, in order, and with so many copies
 pub record Good (kind : KindMeaning) (slots : List Slot) (rules : List Rule) (copies : ℕ) : Type 0 where
@@ -38,14 +39,26 @@ abbrev pub with-all : List ℕ → Rule → List Rule → List Rule
 with-all [] new rules = rules
 with-all (slot ∷ earlier) new rules = new ∷ rules
 
-module _ (kind : KindMeaning) (laws : KindLaws kind) (new : Rule) where
+module _ (kind : KindMeaning) (laws : KindLaws kind) (direction : Direction kind) (new : Rule) where
+  -- a chain of the new rule in this direction, named from its end
+  abbrev pub ChainBack : List Slot → ℕ → List ℕ → Type 0
+  ChainBack slots = Back (direction .before) (direction .above) slots new
+
+  -- the rule in a slot fits every slot that it may go to
+  goes-in : (slots : List Slot) (rules : List Rule) (c g : ℕ) → Settled kind slots rules → at slots g ≡ None → (link : Link (direction .before) (direction .above) slots c g)
+      → FitsIn kind slots (link .rule) g
+  goes-in slots rules c g settled free link =
+      direction .fits-so slots (link .rule) g free
+      (link-fits (direction .before) (direction .above) (direction .irreflexive) (direction .transitive) (direction .compared) (direction .never-itself) slots c g
+      (direction .right-so slots (settled .stocked .right)) link)
+
   -- before the first write
   pub record Start (slots : List Slot) (rules : List Rule) (gap : ℕ) (earlier : List ℕ) : Type 0 where
     pub settled : Settled kind slots rules
     pub fresh : Fresh kind rules new
     pub free : at slots gap ≡ None
     pub within : gap < usable slots
-    pub back : BackChain kind slots new gap earlier
+    pub back : ChainBack slots gap earlier
 
   -- after the write to the gap
   pub record Mid (slots : List Slot) (rules : List Rule) (gap : ℕ) (earlier : List ℕ) : Type 0 where
@@ -61,7 +74,7 @@ module _ (kind : KindMeaning) (laws : KindLaws kind) (new : Rule) where
       ((made ≡ 0) × (first : ℕ) × (earlier : List ℕ) × (left ≡ first ∷ earlier) × Start slots rules first earlier) ⊎ ((0 < made) × Mid slots rules gap left)
 
   written-settled : (slots : List Slot) (rules : List Rule) (gap : ℕ) → Start slots rules gap [] → Settled kind (set slots gap (Some new)) (new ∷ rules)
-  written-settled slots rules gap start = joined kind slots rules gap (start .settled) (start .free) (start .within) laws new (start .fresh) (start .back)
+  written-settled slots rules gap start = joined kind slots rules gap (start .settled) (start .free) (start .within) laws new (start .fresh) (direction .fits-so slots new gap (start .free) (start .back))
 
   pub mid-settled : (slots : List Slot) (rules : List Rule) (gap : ℕ) → Mid slots rules gap [] → Settled kind slots rules
   mid-settled slots rules gap mid = rw (mid .slots-are, mid .rules-are) (written-settled (mid .base) (mid .old) gap (mid .start))
@@ -74,7 +87,7 @@ module _ (kind : KindMeaning) (laws : KindLaws kind) (new : Rule) where
       rw (same, mid .rules-are)
       (record {
         ruled = start .settled .ruled;
-        stocked = copied kind (mid .base) (mid .old) gap (start .settled) (start .free) (start .within) slot link;
+        stocked = copied kind (mid .base) (mid .old) gap (start .settled) (start .free) (start .within) slot (link .rule) (link .stands) (goes-in (mid .base) (mid .old) slot gap (start .settled) (start .free) link);
         count = omega (arith, copied-count kind (mid .base) (mid .old) gap (start .settled) (start .free) (start .within) (link .rule));
       })
 
@@ -92,11 +105,11 @@ module _ (kind : KindMeaning) (laws : KindLaws kind) (new : Rule) where
   start-write slots rules slot earlier start = record { base = slots; old = rules; start = start; slots-are = refl; rules-are = refl }
 
   -- what a slot receives, read after the rule in the slot after it was moved out of the way
-  received-same : (base : List Slot) (gap slot : ℕ) (earlier : List ℕ) (first : List Slot) → BackChain kind base new slot earlier
+  received-same : (base : List Slot) (gap slot : ℕ) (earlier : List ℕ) (first : List Slot) → ChainBack base slot earlier
       → received first new earlier ≡ received (set first slot None) new earlier
   received-same base gap slot [] first back = refl
   received-same base gap slot (before ∷ earlier) first back =
-      ap held (sym (set-there first slot before None (λ same. let less = back .0 .before in absurd (omega arith))))
+      ap held (sym (set-there first slot before None (λ same. direction .irreflexive slot (rw same at (back .0 .before)))))
 
   mid-write : (slots : List Slot) (rules : List Rule) (gap slot : ℕ) (earlier : List ℕ) → Mid slots rules gap (slot ∷ earlier)
       → Mid (set slots slot (Some (received slots new earlier))) (with-new earlier new rules) slot earlier
@@ -113,11 +126,12 @@ module _ (kind : KindMeaning) (laws : KindLaws kind) (new : Rule) where
         base = next;
         old = mid .old;
         start = record {
-          settled = moved kind (mid .base) (mid .old) gap (start .settled) (start .free) (start .within) slot link;
+          settled = moved kind (mid .base) (mid .old) gap (start .settled) (start .free) (start .within) slot (link .rule) (link .stands) (goes-in (mid .base) (mid .old) slot gap (start .settled) (start .free) link);
           fresh = start .fresh;
           free = set-here first slot None (omega (arith, at-within (mid .base) slot rule (link .stands)));
           within = omega (arith, usable-set first slot None, usable-set (mid .base) gap (Some rule));
-          back = carry-back kind (mid .base) new rule slot gap (link .stands) (link .before) slot earlier (λ less. omega arith) (start .back .1);
+          back = carry (direction .before) (direction .above) (direction .irreflexive) (direction .transitive) (direction .compared) (direction .never-itself) (mid .base) new rule slot gap
+              (link .stands) (link .before) slot earlier (direction .irreflexive slot) (start .back .1);
         };
         slots-are =
             ap (λ s. set s slot (Some (received s new earlier))) same

@@ -1,17 +1,15 @@
 -- What stands in a slot after one slot was set. Assumes nothing.
 use mathlib.Core.Path.{_≡_, refl, ap, sym, _∙_}
-use mathlib.Core.Bool.{Bool, true, false}
 use mathlib.Core.List.{List, [], _∷_}
 use mathlib.Core.Logic.{_⊎_, inl, inr, ⊎-elim}
-use Prim.Native.Nat.{ℕ, zero, suc, _+_, _≤_, _<_}
+use Prim.Native.Nat.{ℕ, zero, suc, _<_}
 use native.Mathlib.Omega.{arith}
-use lib.ListN.{length, getD, set}
-use Rattle.std.specs.declared.option.Option.{Option}
+use lib.ListN.{length, set}
 use Rattle.std.specs.declared.option.Option.the-variants.{None, Some}
 use Rattle.std.proofs.shelf.Tests.{cases-eq, cases-lt}
 use Rattle.std.proofs.shelf.Lists.{getD-set-same, getD-set-other, getD-past, length-set}
 use Rattle.rules.specs.declared.rule.Rule.{Rule}
-use Rattle.shifting.specs.Slots.{Slot, at, taken, empty}
+use Rattle.shifting.specs.Slots.{Slot, at, taken}
 
 pub none-some : {X : Type 0} {rule : Rule} → _≡_ {A = Slot} None (Some rule) → X
 none-some same = absurd (let z : _≡_ {A = ℕ} 0 1 = cc in omega arith)

@@ -1,27 +1,25 @@
 -- When an add is refused, and when it opens a ticket. Assumes nothing.
 use mathlib.Core.Path.{_≡_, refl, ap, sym, subst, _∙_}
-use mathlib.Core.Bool.{Bool, true, false, not, cond, _||_}
+use mathlib.Core.Bool.{true, false, cond}
 use mathlib.Core.List.{List, [], _∷_}
-use mathlib.Core.Logic.{_⊎_, inl, inr, ⊎-elim}
-use Prim.Native.Nat.{ℕ, zero, suc, _≤_, _<_}
+use mathlib.Core.Logic.{inl, inr}
+use Prim.Native.Nat.{ℕ}
 use native.Mathlib.Omega.{arith}
-use lib.Dec.{eqb, ltb}
+use lib.Dec.{eqb}
 use lib.ListN.{length}
-use Rattle.std.specs.declared.option.Option.{Option}
 use Rattle.std.specs.declared.option.Option.the-variants.{None, Some}
-use Rattle.std.proofs.shelf.Tests.{cases-bool, cond-both, cond-true, cond-false, both-ways, ne-eqb, eqb-true, and-parts, or-from, not-from-true}
+use Rattle.std.proofs.shelf.Tests.{cond-both, cond-false, both-ways, ne-eqb, eqb-true, and-parts, or-from, not-from-true}
 use Rattle.rules.specs.declared.rule.Rule.{Rule}
 use Rattle.rules.specs.declared.refusal.Refusal.{Refusal}
-use Rattle.rules.specs.declared.refusal.Refusal.the-variants.{Busy, Mangled, Known, Tied, Crossed, NoSlot}
-use Rattle.rules.specs.Kinds.{KindMeaning, KindLaws}
-use Rattle.shifting.specs.Chains.{some-below}
-use Rattle.shifting.specs.Slots.{Slot, at, usable, meets, level, tied, crossed, no-slot, jump-chain, DownwardChain}
-use Rattle.shifting.specs.Machine.{Ticket, Call, add, Answer, opened, counted, refused, Job, State, Fixed, Turn, number-in, refuse, when-idle, open-add, try-add, turn}
+use Rattle.rules.specs.declared.refusal.Refusal.the-variants.{Crossed, NoSlot}
+use Rattle.rules.specs.Kinds.{KindLaws}
+use Rattle.shifting.specs.Slots.{Slot, at, usable, meets, level, tied, crossed, no-slot, jump-chain}
+use Rattle.shifting.specs.Machine.{Ticket, add, opened, refused, State, Fixed, Turn, number-in, refuse, when-idle, open-add, try-add, turn}
 use Rattle.shifting.specs.Law.{In, NewUntied, Refuses, NoChain}
 use Rattle.shifting.proofs.Scans.{some-below-hit}
 use Rattle.shifting.proofs.Settled.{Settled}
 use Rattle.shifting.proofs.Turns.{by-idle, by-add}
-use Rattle.shifting.proofs.Spans.{jump-shortest-chain, crossed-none, no-slot-none}
+use Rattle.shifting.proofs.Spans.{false-from, jump-shortest-chain, crossed-none, no-slot-none}
 
 refused-opened : {X : Type 0} {refusal : Refusal} {ticket : Ticket} → refused refusal ≡ opened ticket → X
 refused-opened same = absurd (let z : _≡_ {A = ℕ} 0 1 = cc in omega arith)
@@ -30,10 +28,6 @@ absent-number : (number : ℕ) (rules : List Rule) → ((rule : Rule) → In rul
 absent-number number [] other = refl
 absent-number number (rule ∷ rules) other =
     or-from _ _ (ne-eqb (rule .number) number (other rule (inl refl))) (absent-number number rules (λ one is. other one (inr is)))
-
--- a test that is not true is false
-false-from : (test : Bool) → (test ≡ true → ⊥) → test ≡ false
-false-from test never = ⊎-elim (λ is. absurd (never is)) (λ is. is) (cases-bool test)
 
 module _ (fixed : Fixed) (laws : KindLaws (fixed .kind)) (state : State) (new : Rule) where
   level-rule : (slot : Slot) → level (fixed .kind) new slot ≡ true → (rule : Rule) × (slot ≡ Some rule) × (meets (fixed .kind) new rule ≡ true) × (rule .priority ≡ new .priority)
@@ -65,12 +59,12 @@ module _ (fixed : Fixed) (laws : KindLaws (fixed .kind)) (state : State) (new : 
       subst (λ (done : Turn). (((why : Refusal) × (done .answer ≡ refused why)) → NoChain fixed state new) × (NoChain fixed state new → (why : Refusal) × (done .answer ≡ refused why)))
       (sym (new-untied-turn idle settled fresh))
       (cond-both _ _ _ Exactly
-      (λ cross. (λ _. crossed-none (fixed .kind) laws (state .slots) new cross, λ _. (Crossed, refl)))
+      (λ cross. (λ _. crossed-none (fixed .kind) (state .slots) new cross, λ _. (Crossed, refl)))
       (λ straight. cond-both _ _ _ Exactly
-      (λ none. (λ _. no-slot-none (fixed .kind) laws (state .slots) new none, λ _. (NoSlot, refl)))
+      (λ none. (λ _. no-slot-none (fixed .kind) (state .slots) new none, λ _. (NoSlot, refl)))
       (λ has-slot. (
         λ refusal. refused-opened (sym (refusal .1)),
-        λ none. absurd (none (jump-chain (fixed .kind) (state .slots) new) (jump-shortest-chain (fixed .kind) laws (state .slots) new straight has-slot .0)),
+        λ none. absurd (none (jump-chain (fixed .kind) (state .slots) new) (jump-shortest-chain (fixed .kind) (state .slots) new straight has-slot .0)),
       ))))
     where
       Exactly : Turn → Type 0

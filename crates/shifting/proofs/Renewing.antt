@@ -1,22 +1,21 @@
 -- A rule is dropped, or has its action changed: the slots hold the rules in force still. Assumes nothing.
 use mathlib.Core.Path.{_≡_, refl, ap, sym, _∙_}
-use mathlib.Core.Bool.{Bool, true, false, cond, _||_}
+use mathlib.Core.Bool.{false, cond, _||_}
 use mathlib.Core.List.{List, [], _∷_}
-use mathlib.Core.Logic.{_⊎_, inl, inr, ⊎-elim, _≢_}
-use Prim.Native.Nat.{ℕ, zero, suc, _+_, _≤_, _<_}
+use mathlib.Core.Logic.{inl, inr, ⊎-elim}
+use Prim.Native.Nat.{ℕ, suc}
 use native.Mathlib.Omega.{arith}
 use lib.Dec.{eqb}
 use lib.ListN.{length, set}
-use Rattle.std.specs.declared.option.Option.{Option}
 use Rattle.std.specs.declared.option.Option.the-variants.{None, Some}
-use Rattle.std.proofs.shelf.Tests.{cases-eq, cond-both, cond-true, cond-false, both-ways, eq-eqb, ne-eqb, eqb-true, eqb-false, or-parts, or-from}
+use Rattle.std.proofs.shelf.Tests.{cases-eq, cond-both, cond-true, cond-false, eq-eqb, ne-eqb, eqb-true, eqb-false, or-parts, or-from}
 use Rattle.rules.specs.declared.rule.Rule.{Rule}
-use Rattle.rules.specs.Kinds.{KindMeaning, KindLaws}
-use Rattle.shifting.specs.Slots.{Slot, at, taken, usable, meets, Over}
+use Rattle.rules.specs.Kinds.{KindMeaning}
+use Rattle.shifting.specs.Slots.{Slot, at, meets}
 use Rattle.shifting.specs.Machine.{number-in, without, with-action, changed}
 use Rattle.shifting.specs.Law.{In}
 use Rattle.shifting.proofs.Reading.{none-some, some-same, at-within, set-read, set-here, set-there, taken-same, taken-less}
-use Rattle.shifting.proofs.Settled.{FitsIn, Distinct, Fine, Ruled, Stocked, Settled, usable-set, in-number, same-rule, erase-in-order, write-in-order}
+use Rattle.shifting.proofs.Settled.{FitsIn, Distinct, Settled, usable-set, erase-in-order, write-in-order}
 
 module _ (number : ℕ) where
   pub in-without : (rule : Rule) (rules : List Rule) → In rule rules → (rule .number ≡ number → ⊥) → In rule (without number rules)

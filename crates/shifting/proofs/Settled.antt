@@ -1,13 +1,11 @@
 -- Slots that hold the rules in force, in the right order, and what a copy, a move and a new rule leave of that. Assumes nothing.
 use mathlib.Core.Path.{_≡_, refl, ap, sym, _∙_}
-use mathlib.Core.Bool.{Bool, true, false}
+use mathlib.Core.Bool.{true, false}
 use mathlib.Core.List.{List, [], _∷_}
 use mathlib.Core.Logic.{_⊎_, inl, inr, ⊎-elim, _≢_}
-use Prim.Native.Nat.{ℕ, zero, suc, _+_, _≤_, _<_, min}
+use Prim.Native.Nat.{ℕ, suc, _<_, min}
 use native.Mathlib.Omega.{arith}
-use lib.Dec.{eqb}
 use lib.ListN.{length, set}
-use Rattle.std.specs.declared.option.Option.{Option}
 use Rattle.std.specs.declared.option.Option.the-variants.{None, Some}
 use Rattle.std.proofs.shelf.Tests.{cases-eq, cases-order, both-ways, eq-eqb, or-left, or-right}
 use Rattle.std.proofs.shelf.Lists.{length-set}
@@ -17,8 +15,8 @@ use Rattle.rules.proofs.Meeting.{meets-symmetric}
 use Rattle.shifting.specs.Slots.{Slot, at, taken, usable, meets, Over}
 use Rattle.shifting.specs.Machine.{number-in}
 use Rattle.shifting.specs.Law.{In, Worded}
-use Rattle.shifting.proofs.Reading.{none-some, some-same, at-within, set-read, set-here, set-there, moved-to, move-read, taken-more, taken-less}
-use Rattle.shifting.proofs.Order.{Right, Fits, Link, Back, write-keeps, erase-keeps, link-fits, carry}
+use Rattle.shifting.proofs.Reading.{none-some, some-same, set-read, set-here, set-there, moved-to, move-read, taken-more, taken-less}
+use Rattle.shifting.proofs.Order.{Right, Fits, write-keeps, erase-keeps}
 
 pub usable-set : (slots : List Slot) (c : ℕ) (slot : Slot) → usable (set slots c slot) ≡ usable slots
 usable-set slots c slot = ap (λ n. min n 480) (length-set slots c slot)
@@ -60,12 +58,6 @@ module _ (kind : KindMeaning) where
   abbrev pub FitsIn : List Slot → Rule → ℕ → Type 0
   FitsIn = Fits (λ i j. i < j) (Over kind)
 
-  abbrev pub LinkDown : List Slot → ℕ → ℕ → Type 0
-  LinkDown = Link (λ i j. i < j) (Over kind)
-
-  abbrev pub BackChain : List Slot → Rule → ℕ → List ℕ → Type 0
-  BackChain = Back (λ i j. i < j) (Over kind)
-
   pub record Fine (rule : Rule) : Type 0 where
     pub words : Worded rule
     pub well-formed : kind .well-formed (rule .«word_a») (rule .«word_b») ≡ true
@@ -106,13 +98,6 @@ module _ (kind : KindMeaning) where
   pub erase-in-order : (slots : List Slot) (c : ℕ) → InOrder slots → InOrder (set slots c None)
   erase-in-order = erase-keeps (λ i j. i < j) (Over kind) (λ i less. omega arith) (λ i j k one two. omega arith) cases-order never-over-itself
 
-  link-fits-in : (slots : List Slot) (c d : ℕ) → InOrder slots → (link : LinkDown slots c d) → FitsIn slots (link .rule) d
-  link-fits-in = link-fits (λ i j. i < j) (Over kind) (λ i less. omega arith) (λ i j k one two. omega arith) cases-order never-over-itself
-
-  pub carry-back : (slots : List Slot) (new moved : Rule) (m g : ℕ) → at slots m ≡ Some moved → m < g → (d : ℕ) (earlier : List ℕ) → (m < d → ⊥)
-      → BackChain slots new d earlier → BackChain (moved-to slots m g moved) new d earlier
-  carry-back = carry (λ i j. i < j) (Over kind) (λ i less. omega arith) (λ i j k one two. omega arith) cases-order never-over-itself
-
   -- a rule that fits an empty slot is written there
   write-stocked : (slots : List Slot) (rules more : List Rule) (rule : Rule) (g : ℕ) → Stocked slots rules → at slots g ≡ None → g < usable slots → FitsIn slots rule g
       → In rule more → ((one : Rule) → In one rules → In one more) → ((one : Rule) → In one more → (one ≡ rule) ⊎ In one rules)
@@ -138,33 +123,31 @@ module _ (kind : KindMeaning) where
     room : g < length slots
     room = omega arith
 
-    -- a copy of a rule that may go down to an empty slot
-    pub copied : (c : ℕ) (link : LinkDown slots c g) → Stocked (set slots g (Some (link .rule))) rules
-    copied c link =
-        write-stocked slots rules rules (link .rule) g (settled .stocked) free within (link-fits-in slots c g (settled .stocked .right) link)
-        (settled .stocked .only c (link .rule) (link .stands)) (λ one is. is) (λ one is. inr is)
+    -- a copy of a rule in an empty slot that it fits
+    pub copied : (c : ℕ) (rule : Rule) → at slots c ≡ Some rule → FitsIn slots rule g → Stocked (set slots g (Some rule)) rules
+    copied c rule stands fits =
+        write-stocked slots rules rules rule g (settled .stocked) free within fits (settled .stocked .only c rule stands) (λ one is. is) (λ one is. inr is)
 
     pub copied-count : (rule : Rule) → taken (set slots g (Some rule)) ≡ suc (length rules)
     copied-count rule = taken-more slots g rule room free ∙ ap suc (settled .count)
 
-    -- a rule that has gone down to an empty slot
-    pub moved : (c : ℕ) (link : LinkDown slots c g) → Settled (moved-to slots c g (link .rule)) rules
-    moved c link =
-        let rule = link .rule in
+    -- a rule that has gone to an empty slot that it fits
+    pub moved : (c : ℕ) (rule : Rule) → at slots c ≡ Some rule → FitsIn slots rule g → Settled (moved-to slots c g rule) rules
+    moved c rule stands fits =
         let first = set slots g (Some rule) in
         let size : usable (moved-to slots c g rule) ≡ usable slots = usable-set first c None ∙ usable-set slots g (Some rule) in
-        let apart : c ≡ g → ⊥ = λ same. none-some (sym free ∙ (ap (at slots) (sym same) ∙ link .stands)) in
+        let apart : c ≡ g → ⊥ = λ same. none-some (sym free ∙ (ap (at slots) (sym same) ∙ stands)) in
         record {
           ruled = settled .ruled;
           stocked = record {
-            right = erase-in-order first c (copied c link .right);
+            right = erase-in-order first c (copied c rule stands fits .right);
             inside = λ i one at-i.
                 ⊎-elim (λ here. omega arith) (λ there. let earlier = settled .stocked .inside i one (there .1) in omega arith) (move-read slots c g rule i one at-i);
             stands = λ one is.
                 let place = settled .stocked .stands one is in
                 ⊎-elim
                 (λ same.
-                let is-rule : one ≡ rule = some-same (sym (place .1) ∙ (ap (at slots) same ∙ link .stands)) in
+                let is-rule : one ≡ rule = some-same (sym (place .1) ∙ (ap (at slots) same ∙ stands)) in
                 (g, set-there first c g None (λ e. apart (sym e)) ∙ (set-here slots g (Some rule) room ∙ ap Some (sym is-rule))))
                 (λ other. (
                   place .0,
@@ -173,22 +156,22 @@ module _ (kind : KindMeaning) where
                 ))
                 (cases-eq (place .0) c);
             only = λ i one at-i.
-                ⊎-elim (λ here. rw (← (here .1)) (settled .stocked .only c rule (link .stands))) (λ there. settled .stocked .only i one (there .1)) (move-read slots c g rule i one at-i);
+                ⊎-elim (λ here. rw (← (here .1)) (settled .stocked .only c rule (stands))) (λ there. settled .stocked .only i one (there .1)) (move-read slots c g rule i one at-i);
           };
           once = λ i j one two at-i at-j numbers.
               ⊎-elim
               (λ here.
               ⊎-elim (λ too. here .0 ∙ sym (too .0))
-              (λ there. absurd (there .0 (sym (settled .once c j rule two (link .stands) (there .1) (ap (λ r. r .number) (here .1) ∙ numbers)))))
+              (λ there. absurd (there .0 (sym (settled .once c j rule two (stands) (there .1) (ap (λ r. r .number) (here .1) ∙ numbers)))))
               (move-read slots c g rule j two at-j))
               (λ there.
               ⊎-elim
-              (λ too. absurd (there .0 (settled .once i c one rule (there .1) (link .stands) (numbers ∙ ap (λ r. r .number) (sym (too .1))))))
+              (λ too. absurd (there .0 (settled .once i c one rule (there .1) (stands) (numbers ∙ ap (λ r. r .number) (sym (too .1))))))
               (λ too. settled .once i j one two (there .1) (too .1) numbers)
               (move-read slots c g rule j two at-j))
               (move-read slots c g rule i one at-i);
           count =
-              let copy : at first c ≡ Some rule = set-there slots g c (Some rule) apart ∙ link .stands in
+              let copy : at first c ≡ Some rule = set-there slots g c (Some rule) apart ∙ stands in
               omega (arith, taken-less first c rule copy, copied-count rule);
         }
 

@@ -9,24 +9,24 @@ use lib.Dec.{eqb, ltb}
 use lib.ListN.{length, getD, set, take, drop}
 use Rattle.std.specs.declared.option.Option.{Option}
 use Rattle.std.specs.declared.option.Option.the-variants.{None, Some}
-use Rattle.std.proofs.shelf.Tests.{cases-eq, cases-lt, cases-bool, cond-both, cond-true, cond-false, both-ways, eq-eqb, ne-eqb, eqb-true, eqb-false, lt-ltb, le-ltb, ltb-true, ltb-false, and-from, and-left, and-right, and-parts, and-cases, or-parts, not-false, not-true}
+use Rattle.std.specs.shelf.Lists.{All}
+use Rattle.std.proofs.shelf.Tests.{cases-eq, cases-lt, cond-both, cond-true, cond-false, both-ways, eq-eqb, ne-eqb, eqb-true, eqb-false, lt-ltb, le-ltb, ltb-true, ltb-false, and-from, and-right, and-parts, and-cases, or-parts, not-false}
 use Rattle.std.proofs.shelf.Lists.{length-set, length-drop, length-reverse, getD-past}
 use Rattle.rules.specs.declared.rule.Rule.{Rule}
 use Rattle.rules.specs.declared.event.Event.{Event}
 use Rattle.rules.specs.declared.event.Event.the-variants.{Write, Erase}
-use Rattle.rules.specs.declared.refusal.Refusal.{Refusal}
-use Rattle.rules.specs.declared.refusal.Refusal.the-variants.{Busy, Mangled, Known, Tied, Crossed, NoSlot, Unknown, Misdialled, Foreign, RunOut}
-use Rattle.rules.specs.Kinds.{KindMeaning, KindLaws}
-use Rattle.shifting.specs.Chains.{scan, some-below}
-use Rattle.shifting.specs.Slots.{Slot, at, taken, usable, meets, level, tied, crossed, no-slot, jump-chain, carried-out, all-carried-out, first-match}
+use Rattle.rules.specs.declared.refusal.Refusal.the-variants.{Foreign, RunOut}
+use Rattle.rules.specs.Kinds.{KindLaws}
+use Rattle.shifting.specs.Slots.{Slot, at, taken, usable, meets, level, tied, crossed, no-slot, jump-chain, carried-out, all-carried-out}
 use Rattle.shifting.specs.Machine.{Ticket, Call, add, step, complete, withdraw, drop-rule, change-action, look-up, Job, State, Fixed, Turn, has-number, held, received, writes, unwritten, written, half-way, last-written}
-use Rattle.shifting.specs.Machine.{number-in, without, with-action, changed, refuse, when-idle, names, when-named, open-add, try-add, make-one, make-all, take-back, place, when-standing, erase-rule, rewrite-rule, turn, after, erases, cleared, told}
-use Rattle.shifting.specs.Law.{In, Worded, Sized, All-sized, copies}
-use Rattle.shifting.proofs.Reading.{none-some, some-same, set-here, set-there}
+use Rattle.shifting.specs.Machine.{with-action, changed, refuse, when-idle, names, when-named, open-add, try-add, make-one, make-all, take-back, place, turn, after, erases, cleared}
+use Rattle.shifting.specs.Law.{In, Worded, Sized, copies}
+use Rattle.shifting.proofs.Reading.{none-some, set-here, set-there}
 use Rattle.shifting.proofs.Scans.{scan-hit, some-below-none}
-use Rattle.shifting.proofs.Settled.{Ruled, Stocked, Settled, Fresh}
-use Rattle.shifting.proofs.Spans.{Reversed, chain-reversed, jump-shortest-chain}
-use Rattle.shifting.proofs.Progress.{Good, settled-good, with-new, with-all, Start, Mid, Going, mid-erased, advance, going-good, going-written, writes-good, writes-settled}
+use Rattle.shifting.proofs.Settled.{Settled, Fresh}
+use Rattle.shifting.proofs.Directions.{down}
+use Rattle.shifting.proofs.Spans.{chain-reversed, jump-shortest-chain}
+use Rattle.shifting.proofs.Progress.{Good, settled-good, with-new, with-all, Mid, Going, mid-erased, advance, going-good, going-written, writes-good, writes-settled}
 use Rattle.shifting.proofs.Turns.{by-add, slots-by-events}
 use Rattle.shifting.proofs.Renewing.{dropped, renewed-settled}
 
@@ -54,11 +54,15 @@ copies-some job some fewer = ap (λ b. cond b 1 0) (and-true (ltb 0 (job .made +
 copies-all : (job : Job) (some : ℕ) → length (job .chain) ≤ job .made + some → copies (Some job) some ≡ 0
 copies-all job some all = ap (λ b. cond b 1 0) (and-right (ltb 0 (job .made + some)) _ (le-ltb (job .made + some) (length (job .chain)) all))
 
+pub found-number : (slot : Slot) (number : ℕ) → has-number number slot ≡ true → (rule : Rule) × (slot ≡ Some rule) × (rule .number ≡ number)
+found-number None number hit = absurd (both-ways false refl hit)
+found-number (Some rule) number hit = (rule, refl, eqb-true (rule .number) number hit)
+
 module _ (fixed : Fixed) (laws : KindLaws (fixed .kind)) where
   -- an open add
   pub record Opened (slots : List Slot) (rules : List Rule) (job : Job) : Type 0 where
     pub short : job .made ≤ length (job .chain)
-    pub going : Going (fixed .kind) laws (job .rule) slots rules (job .made) (last-written job) (unwritten job)
+    pub going : Going (fixed .kind) laws (down (fixed .kind)) (job .rule) slots rules (job .made) (last-written job) (unwritten job)
 
   abbrev pub Phase : List Slot → List Rule → Option Job → Type 0
   Phase slots rules None = Settled (fixed .kind) slots rules
@@ -75,13 +79,13 @@ module _ (fixed : Fixed) (laws : KindLaws (fixed .kind)) where
   open-good slots rules job opened = by-left (unwritten job) (length-unwritten slots rules job opened) (opened .going)
     where
       by-left : (left : List ℕ) → length left ≡ length (job .chain) - job .made
-          → Going (fixed .kind) laws (job .rule) slots rules (job .made) (last-written job) left → Good (fixed .kind) slots rules (copies (Some job) 0)
+          → Going (fixed .kind) laws (down (fixed .kind)) (job .rule) slots rules (job .made) (last-written job) left → Good (fixed .kind) slots rules (copies (Some job) 0)
       by-left [] size going =
           let short = opened .short in
-          rw (copies-all job 0 (omega arith)) (settled-good (fixed .kind) slots rules (going-written (fixed .kind) laws (job .rule) slots rules (job .made) (last-written job) going))
+          rw (copies-all job 0 (omega arith)) (settled-good (fixed .kind) slots rules (going-written (fixed .kind) laws (down (fixed .kind)) (job .rule) slots rules (job .made) (last-written job) going))
       by-left (slot ∷ earlier) size going =
           let none : job .made + 0 ≡ job .made = omega arith in
-          rw (copies-some job 0 (omega arith), none) (going-good (fixed .kind) laws (job .rule) slots rules (job .made) (last-written job) slot earlier going)
+          rw (copies-some job 0 (omega arith), none) (going-good (fixed .kind) laws (down (fixed .kind)) (job .rule) slots rules (job .made) (last-written job) slot earlier going)
 
   pub phase-good : (slots : List Slot) (rules : List Rule) (job : Option Job) → Phase slots rules job → Good (fixed .kind) slots rules (copies job 0)
   phase-good slots rules None settled = settled-good (fixed .kind) slots rules settled
@@ -120,7 +124,7 @@ module _ (fixed : Fixed) (laws : KindLaws (fixed .kind)) where
   all-in-force job (slot ∷ earlier) rules size = sym (cond-false _ rules (job .rule ∷ rules) (ne-eqb (job .made) (length (job .chain)) (λ same. omega arith)))
 
   mid-as : {new : Rule} {slots : List Slot} {rules rules′ : List Rule} {gap gap′ : ℕ} {left left′ : List ℕ} → rules ≡ rules′ → gap ≡ gap′ → left ≡ left′
-      → Mid (fixed .kind) laws new slots rules gap left → Mid (fixed .kind) laws new slots rules′ gap′ left′
+      → Mid (fixed .kind) laws (down (fixed .kind)) new slots rules gap left → Mid (fixed .kind) laws (down (fixed .kind)) new slots rules′ gap′ left′
   mid-as rules-same gap-same left-same mid = rw (← rules-same, ← gap-same, ← left-same) mid
 
   make-one-step : (state : State) (job : Job) → Opened (state .slots) (state .rules) job → job .made < length (job .chain) → StepBy state (Some job) (make-one fixed state job)
@@ -139,7 +143,7 @@ module _ (fixed : Fixed) (laws : KindLaws (fixed .kind)) where
           let size = ap length are in
           let same-place : job .made ≡ suc (job .made) - 1 = omega arith in
           let next = drop-more (job .made) (reverse (job .chain)) slot 0 earlier are in
-          let going : Going (fixed .kind) laws (job .rule) slots (state .rules) (job .made) (last-written job) (slot ∷ earlier) =
+          let going : Going (fixed .kind) laws (down (fixed .kind)) (job .rule) slots (state .rules) (job .made) (last-written job) (slot ∷ earlier) =
           rw are at (opened .going) in
           one-event slots (state .rules) (Some job) (Write slot (received slots (job .rule) earlier)) _ (Some further) (open-good slots (state .rules) job opened)
           (record {
@@ -147,7 +151,7 @@ module _ (fixed : Fixed) (laws : KindLaws (fixed .kind)) where
             going = inr (
               omega arith,
               mid-as (new-in-force job earlier (state .rules) (omega (arith, length-unwritten slots (state .rules) job opened))) (sym (next .0) ∙ ap (λ k. getD (reverse (job .chain)) k 0) same-place) (sym (next .1))
-                  (advance (fixed .kind) laws (job .rule) slots (state .rules) (job .made) (last-written job) slot earlier going),
+                  (advance (fixed .kind) laws (down (fixed .kind)) (job .rule) slots (state .rules) (job .made) (last-written job) slot earlier going),
             );
           })
 
@@ -160,11 +164,11 @@ module _ (fixed : Fixed) (laws : KindLaws (fixed .kind)) where
         inside = λ some fewer.
             let still : some < length left = omega (arith, length-writes (job .rule) left (state .slots)) in
             rw (copies-some job some (omega arith))
-            (writes-good (fixed .kind) laws (job .rule) left (state .slots) (state .rules) (job .made) (last-written job) some (opened .going) still);
+            (writes-good (fixed .kind) laws (down (fixed .kind)) (job .rule) left (state .slots) (state .rules) (job .made) (last-written job) some (opened .going) still);
         leaves =
             subst (λ rules. Settled (fixed .kind) (all-carried-out (state .slots) (writes (state .slots) (job .rule) left)) rules)
             (all-in-force job left (state .rules) (omega arith))
-            (writes-settled (fixed .kind) laws (job .rule) left (state .slots) (state .rules) (job .made) (last-written job) (opened .going));
+            (writes-settled (fixed .kind) laws (down (fixed .kind)) (job .rule) left (state .slots) (state .rules) (job .made) (last-written job) (opened .going));
       }
 
   take-back-step : (state : State) (job : Job) → Opened (state .slots) (state .rules) job → StepBy state (Some job) (take-back fixed state job)
@@ -183,16 +187,16 @@ module _ (fixed : Fixed) (laws : KindLaws (fixed .kind)) where
       (inr (omega (arith, length-unwritten (state .slots) (state .rules) job opened, ltb-false (job .made) (length (job .chain)) all))))
       (and-cases (ltb 0 (job .made)) (ltb (job .made) (length (job .chain))) whole)))
     where
-      erased : (left : List ℕ) → Going (fixed .kind) laws (job .rule) (state .slots) (state .rules) (job .made) (last-written job) left → 0 < job .made → 0 < length left
+      erased : (left : List ℕ) → Going (fixed .kind) laws (down (fixed .kind)) (job .rule) (state .slots) (state .rules) (job .made) (last-written job) left → 0 < job .made → 0 < length left
           → Settled (fixed .kind) (set (state .slots) (last-written job) None) (state .rules)
       erased [] going some more = absurd (omega arith)
       erased (slot ∷ earlier) going some more =
           ⊎-elim (λ begun. absurd (let none = begun .0 in omega arith))
-          (λ mid. mid-erased (fixed .kind) laws (job .rule) (state .slots) (state .rules) (last-written job) slot earlier (mid .1)) going
+          (λ mid. mid-erased (fixed .kind) laws (down (fixed .kind)) (job .rule) (state .slots) (state .rules) (last-written job) slot earlier (mid .1)) going
 
-      idle : (left : List ℕ) → Going (fixed .kind) laws (job .rule) (state .slots) (state .rules) (job .made) (last-written job) left → (job .made ≤ 0) ⊎ (length left ≤ 0)
+      idle : (left : List ℕ) → Going (fixed .kind) laws (down (fixed .kind)) (job .rule) (state .slots) (state .rules) (job .made) (last-written job) left → (job .made ≤ 0) ⊎ (length left ≤ 0)
           → Settled (fixed .kind) (state .slots) (state .rules)
-      idle [] going which = going-written (fixed .kind) laws (job .rule) (state .slots) (state .rules) (job .made) (last-written job) going
+      idle [] going which = going-written (fixed .kind) laws (down (fixed .kind)) (job .rule) (state .slots) (state .rules) (job .made) (last-written job) going
       idle (slot ∷ earlier) going which =
           ⊎-elim (λ begun. begun .4 .settled) (λ mid. absurd (let some = mid .0 in ⊎-elim (λ none. omega arith) (λ none. omega arith) which)) going
 
@@ -207,7 +211,7 @@ module _ (fixed : Fixed) (laws : KindLaws (fixed .kind)) where
   open-add-step state new settled fresh straight has-slot =
       let chain = jump-chain (fixed .kind) (state .slots) new in
       let back = chain-reversed (fixed .kind) laws (state .slots) new chain (fresh .fine .words) (inside-worded (state .slots) (state .rules) settled)
-      (jump-shortest-chain (fixed .kind) laws (state .slots) new straight has-slot .0) in
+      (jump-shortest-chain (fixed .kind) (state .slots) new straight has-slot .0) in
       no-event (state .slots) (state .rules) None (state .rules) _
       (record {
         short = omega arith;
@@ -239,10 +243,6 @@ module _ (fixed : Fixed) (laws : KindLaws (fixed .kind)) where
 
   -- Drop and change.
 
-  found-number : (slot : Slot) (number : ℕ) → has-number number slot ≡ true → (rule : Rule) × (slot ≡ Some rule) × (rule .number ≡ number)
-  found-number None number hit = absurd (both-ways false refl hit)
-  found-number (Some rule) number hit = (rule, refl, eqb-true (rule .number) number hit)
-
   standing : (state : State) (number : ℕ) → (eqb number 0 || not (ltb (place fixed state number) (length (state .slots)))) ≡ false
       → (rule : Rule) × (at (state .slots) (place fixed state number) ≡ Some rule) × (rule .number ≡ number)
   standing state number known =
@@ -267,7 +267,7 @@ module _ (fixed : Fixed) (laws : KindLaws (fixed .kind)) where
       (λ _. no-event (state .slots) (state .rules) (Some job) (state .rules) (state .job) sound)
 
   pub call-step : (state : State) (call : Call) → Sized call → Sound state → StepBy state (state .job) (turn fixed state call)
-  call-step state (add new) sized sound = when-idle-step state (try-add fixed state new) sound (state .job) sound (try-add-step state new sized sound)
+  call-step state (add new) sized sound = when-idle-step state (try-add fixed state new) sound (state .job) sound (try-add-step state new (sized new refl) sound)
   call-step state (step ticket) sized sound =
       when-named-step state ticket (λ job. cond (written job) (refuse fixed state RunOut) (make-one fixed state job)) sound (state .job) sound
       (λ job opened.
@@ -306,7 +306,7 @@ module _ (fixed : Fixed) (laws : KindLaws (fixed .kind)) where
       subst (λ (slots : List Slot). Phase slots (turn fixed state call .next .rules) (turn fixed state call .next .job)) (sym (slots-by-events fixed state call))
       (call-step state call sized sound .leaves)
 
-  pub sound-after : (calls : List Call) (state : State) → All-sized calls → Sound state → Sound (after fixed state calls)
+  pub sound-after : (calls : List Call) (state : State) → All Sized calls → Sound state → Sound (after fixed state calls)
   sound-after [] state sized sound = sound
   sound-after (call ∷ calls) state sized sound = sound-after calls (turn fixed state call .next) (sized .1) (sound-next state call (sized .0) sound)
 

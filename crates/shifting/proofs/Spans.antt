@@ -2,51 +2,36 @@
 use mathlib.Core.Path.{_≡_, refl, ap, sym, _∙_}
 use mathlib.Core.Bool.{Bool, true, false, not, _&&_}
 use mathlib.Core.List.{List, [], _∷_, reverse, reverseAux}
-use mathlib.Core.Logic.{_⊎_, inl, inr, ⊎-elim, _≢_}
-use Prim.Native.Nat.{ℕ, zero, suc, _+_, _-_, _≤_, _<_, min}
+use mathlib.Core.Logic.{⊎-elim}
+use Prim.Native.Nat.{ℕ, suc, _-_, _≤_, _<_}
 use native.Mathlib.Omega.{arith}
-use lib.Dec.{eqb, ltb}
-use lib.ListN.{length, set}
-use Rattle.std.specs.declared.option.Option.{Option}
+use lib.ListN.{length}
 use Rattle.std.specs.declared.option.Option.the-variants.{None, Some}
-use Rattle.std.proofs.shelf.Tests.{cases-lt, both-ways, and-from, and-parts, lt-ltb, le-ltb, ltb-true, ltb-false, ne-eqb, not-from-false, not-true, not-false, not-from-true, eqb-true}
+use Rattle.std.proofs.shelf.Tests.{cases-lt, cases-bool, both-ways, and-from, and-parts, lt-ltb, ltb-true, ltb-false, ne-eqb, not-from-false, not-true, not-false}
 use Rattle.rules.specs.declared.rule.Rule.{Rule}
 use Rattle.rules.specs.Kinds.{KindMeaning, KindLaws}
 use Rattle.rules.proofs.Meeting.{meets-symmetric}
-use Rattle.shifting.specs.Chains.{scan, past, some-below, Chain, jump}
-use Rattle.shifting.specs.Slots.{Slot, at, empty, taken, usable, meets, Over, above, below, level, clashes, is-empty, low, high, InSpan, crossed, tied, no-slot, reach, DownwardChain, jump-chain}
-use Rattle.shifting.specs.Law.{In, Worded}
-use Rattle.shifting.proofs.Reading.{none-some, some-same, at-within}
-use Rattle.shifting.proofs.Scans.{scan-low, scan-high, scan-before, scan-hit, scan-first, past-high, past-last, past-hit, some-below-from, some-below-none, some-below-hit}
+use Rattle.shifting.specs.Chains.{scan, some-below, Chain}
+use Rattle.shifting.specs.Slots.{Slot, at, holds, usable, meets, above, below, clashes, is-empty, low, high, InSpan, crossed, no-slot, reach, DownwardChain, jump-chain}
+use Rattle.shifting.specs.Law.{Worded, JumpRule}
+use Rattle.shifting.proofs.Scans.{scan-low, scan-before, scan-hit, scan-first, past-high, past-last, past-hit, some-below-from, some-below-hit}
 use Rattle.shifting.proofs.Jumps.{Shortest, jump-shortest}
-use Rattle.shifting.proofs.Settled.{FitsIn, LinkDown, BackChain, Fine, Stocked}
+use Rattle.shifting.proofs.Settled.{FitsIn}
+use Rattle.shifting.proofs.Directions.{LinkDown, BackChain}
 
-pub filled-rule : (slot : Slot) → empty slot ≡ false → (rule : Rule) × (slot ≡ Some rule)
+pub filled-rule : (slot : Slot) → not (holds (λ rule. true) slot) ≡ false → (rule : Rule) × (slot ≡ Some rule)
 filled-rule None filled = absurd (both-ways true filled refl)
 filled-rule (Some rule) filled = (rule, refl)
 
-pub empty-none : (slot : Slot) → empty slot ≡ true → slot ≡ None
+pub empty-none : (slot : Slot) → not (holds (λ rule. true) slot) ≡ true → slot ≡ None
 empty-none None free = refl
 empty-none (Some rule) free = absurd (both-ways false refl free)
 
-module _ (kind : KindMeaning) (laws : KindLaws kind) (slots : List Slot) where
-  -- the first slot of the span, and every other, fits the new rule
-  pub span-fits : (new : Rule) → Worded new → ((i : ℕ) (rule : Rule) → at slots i ≡ Some rule → (i < usable slots) × Worded rule)
-      → (c : ℕ) → InSpan kind slots new c → FitsIn kind slots new c
-  span-fits new words inside c span j other at-j =
-      let others = inside j other at-j in
-      let is-above = λ (i : ℕ). above kind new (at slots i) in
-      let is-below = λ (i : ℕ). below kind new (at slots i) in (
-        λ over.
-            let meet : meets kind new other ≡ true =
-            meets-symmetric kind laws (new .«word_a») (new .«word_b») (other .«word_a») (other .«word_b») (words .0) (words .1) (others .1 .0) (others .1 .1) ∙ over .meet in
-            let test : is-above j ≡ true = ap (above kind new) at-j ∙ and-from _ _ meet (lt-ltb (new .priority) (other .priority) (over .higher)) in
-            omega (arith, past-last is-above (usable slots) j (others .0) test, span .from-low),
-        λ over early.
-            let test : is-below j ≡ true = ap (below kind new) at-j ∙ and-from _ _ (over .meet) (lt-ltb (other .priority) (new .priority) (over .higher)) in
-            both-ways (is-below j) (scan-before is-below 0 (usable slots) j (omega arith) (omega (arith, span .to-high))) test,
-      )
+-- a test that is not true is false
+pub false-from : (test : Bool) → (test ≡ true → ⊥) → test ≡ false
+false-from test never = ⊎-elim (λ is. absurd (never is)) (λ is. is) (cases-bool test)
 
+module _ (kind : KindMeaning) (slots : List Slot) where
   -- the rule in a taken slot may go down as far as its reach
   pub reach-link : (c d : ℕ) → is-empty slots c ≡ false → c < d → d ≤ reach kind slots c → LinkDown kind slots c d
   reach-link c d filled less reached =
@@ -78,12 +63,6 @@ module _ (kind : KindMeaning) (laws : KindLaws kind) (slots : List Slot) where
       record { gap = c; earlier = earlier; are = refl; free = empty-none (at slots c) chain; within = within; back = back }
   reversed new c (d ∷ later) earlier within back chain =
       reversed new d later (c ∷ earlier) (omega arith) (reach-link c d (chain .0) (chain .1) (chain .2), back) (chain .3)
-
-  pub chain-reversed : (new : Rule) (chain : List ℕ) → Worded new → ((i : ℕ) (rule : Rule) → at slots i ≡ Some rule → (i < usable slots) × Worded rule)
-      → DownwardChain kind slots new chain → Reversed new (reverse chain)
-  chain-reversed new [] words inside chain = absurd chain
-  chain-reversed new (c ∷ later) words inside chain =
-      reversed new c later [] (chain .0 .within) (span-fits new words inside c (chain .0)) (chain .1)
 
   -- The jump rule.
 
@@ -166,3 +145,36 @@ module _ (kind : KindMeaning) (laws : KindLaws kind) (slots : List Slot) where
       let start = low kind slots new in
       let first = scan-first (is-empty slots) start (usable slots - start) (end .0) (omega (arith, chain .0 .from-low)) (end .3) in
       omega (arith, ltb-false (scan (is-empty slots) start (usable slots - start)) (usable slots) (not-true _ none))
+
+-- A kind that keeps its law.
+module _ (kind : KindMeaning) (laws : KindLaws kind) (slots : List Slot) where
+  -- the first slot of the span, and every other, fits the new rule
+  pub span-fits : (new : Rule) → Worded new → ((i : ℕ) (rule : Rule) → at slots i ≡ Some rule → (i < usable slots) × Worded rule)
+      → (c : ℕ) → InSpan kind slots new c → FitsIn kind slots new c
+  span-fits new words inside c span j other at-j =
+      let others = inside j other at-j in
+      let is-above = λ (i : ℕ). above kind new (at slots i) in
+      let is-below = λ (i : ℕ). below kind new (at slots i) in (
+        λ over.
+            let meet : meets kind new other ≡ true =
+            meets-symmetric kind laws (new .«word_a») (new .«word_b») (other .«word_a») (other .«word_b») (words .0) (words .1) (others .1 .0) (others .1 .1) ∙ over .meet in
+            let test : is-above j ≡ true = ap (above kind new) at-j ∙ and-from _ _ meet (lt-ltb (new .priority) (other .priority) (over .higher)) in
+            omega (arith, past-last is-above (usable slots) j (others .0) test, span .from-low),
+        λ over early.
+            let test : is-below j ≡ true = ap (below kind new) at-j ∙ and-from _ _ (over .meet) (lt-ltb (other .priority) (new .priority) (over .higher)) in
+            both-ways (is-below j) (scan-before is-below 0 (usable slots) j (omega arith) (omega (arith, span .to-high))) test,
+      )
+
+  pub chain-reversed : (new : Rule) (chain : List ℕ) → Worded new → ((i : ℕ) (rule : Rule) → at slots i ≡ Some rule → (i < usable slots) × Worded rule)
+      → DownwardChain kind slots new chain → Reversed kind slots new (reverse chain)
+  chain-reversed new [] words inside chain = absurd chain
+  chain-reversed new (c ∷ later) words inside chain =
+      reversed kind slots new c later [] (chain .0 .within) (span-fits new words inside c (chain .0)) (chain .1)
+
+-- if a rule has a downward chain at all, the jump rule gives one, and no longer
+pub jump-rule : JumpRule
+jump-rule kind slots new other downward =
+    let straight = false-from (crossed kind slots new) (λ cross. crossed-none kind slots new cross other downward) in
+    let has-slot = false-from (no-slot kind slots new) (λ none. no-slot-none kind slots new none other downward) in
+    let shortest = jump-shortest-chain kind slots new straight has-slot in
+    (shortest .0, shortest .1 other downward)

@@ -1,20 +1,20 @@
 -- The law of runs: what holds of every call in every list of calls from a cleared board. Assumes nothing.
 use mathlib.Core.Path.{_≡_}
-use mathlib.Core.Bool.{Bool, true, false, cond}
+use mathlib.Core.Bool.{true, false, cond}
 use mathlib.Core.List.{List, [], _∷_, _++_}
 use mathlib.Core.Logic.{_⊎_, _≢_}
-use Prim.Native.Nat.{ℕ, zero, suc, _+_, _≤_}
+use Prim.Native.Nat.{ℕ, _+_, _≤_}
 use lib.Dec.{ltb}
 use lib.ListN.{length, take}
+use Rattle.std.specs.shelf.Lists.{All}
 use Rattle.std.specs.declared.option.Option.{Option}
 use Rattle.std.specs.declared.option.Option.the-variants.{None, Some}
 use Rattle.rules.specs.declared.rule.Rule.{Rule}
-use Rattle.rules.specs.declared.event.Event.{Event}
 use Rattle.rules.specs.declared.refusal.Refusal.{Refusal}
 use Rattle.rules.specs.Kinds.{KindMeaning, KindLaws, Word}
-use Rattle.shifting.specs.Slots.{Slot, at, taken, all-carried-out, matches, meets, RightOrder, DownwardChain, first-match}
+use Rattle.shifting.specs.Slots.{Slot, taken, all-carried-out, matches, meets, RightOrder, DownwardChain, jump-chain, first-match}
 use Rattle.shifting.specs.Machine.{Ticket, Call, add, step, complete, withdraw, drop-rule, change-action, look-up}
-use Rattle.shifting.specs.Machine.{Answer, opened, counted, done, found, refused, Job, State, Fixed, cleared, half-way, told, all-traced, turn, after}
+use Rattle.shifting.specs.Machine.{opened, counted, refused, Job, State, Fixed, cleared, half-way, told, all-traced, turn, after}
 
 -- one of a list of rules
 abbrev pub In : Rule → List Rule → Type 0
@@ -39,19 +39,9 @@ Answers kind rules subject (Some (number, action)) = Best kind rules subject num
 abbrev pub Worded : Rule → Type 0
 Worded rule = Word (rule .«word_a») × Word (rule .«word_b»)
 
--- what a call hands in has 64 bits, where a kind looks at it
+-- a rule that is added has words of 64 bits; nothing else that a call hands in is held to a size
 abbrev pub Sized : Call → Type 0
-Sized (add new) = Worded new
-Sized (step ticket) = Unit {0}
-Sized (complete ticket) = Unit {0}
-Sized (withdraw ticket) = Unit {0}
-Sized (drop-rule number) = Unit {0}
-Sized (change-action number action) = Unit {0}
-Sized (look-up subject) = Word subject
-
-abbrev pub All-sized : List Call → Type 0
-All-sized [] = Unit {0}
-All-sized (call ∷ calls) = Sized call × All-sized calls
+Sized call = (new : Rule) → call ≡ add new → Worded new
 
 -- 1 while an open add, with so many more writes made, has made some of its writes but not all
 abbrev pub copies : Option Job → ℕ → ℕ
@@ -60,17 +50,17 @@ copies (Some job) more = cond (half-way (record { rule = job .rule; chain = job 
 
 module _ (fixed : Fixed) where
   -- a complete or a withdraw that takes its ticket
-  abbrev pub Takes-ticket : State → Call → Type 0
-  Takes-ticket state call = (ticket : Ticket) × (n : ℕ) × ((call ≡ complete ticket) ⊎ (call ≡ withdraw ticket)) × (turn fixed state call .answer ≡ counted n)
+  abbrev pub TakesTicket : State → Call → Type 0
+  TakesTicket state call = (ticket : Ticket) × (n : ℕ) × ((call ≡ complete ticket) ⊎ (call ≡ withdraw ticket)) × (turn fixed state call .answer ≡ counted n)
 
   -- the open add stays open, whatever calls these are
-  abbrev pub Stays-open : State → List Call → Type 0
-  Stays-open state [] = Unit {0}
-  Stays-open state (call ∷ calls) = (Takes-ticket state call → ⊥) × Stays-open (turn fixed state call .next) calls
+  abbrev pub StaysOpen : State → List Call → Type 0
+  StaysOpen state [] = Unit {0}
+  StaysOpen state (call ∷ calls) = (TakesTicket state call → ⊥) × StaysOpen (turn fixed state call .next) calls
 
   -- an add is carried through by a step that answers 0, or by a complete that takes its ticket
-  abbrev pub Carries-through : State → Call → Type 0
-  Carries-through state call =
+  abbrev pub CarriesThrough : State → Call → Type 0
+  CarriesThrough state call =
       ((ticket : Ticket) × (call ≡ step ticket) × (turn fixed state call .answer ≡ counted 0))
       ⊎ ((ticket : Ticket) × (n : ℕ) × (call ≡ complete ticket) × (turn fixed state call .answer ≡ counted n))
 
@@ -121,8 +111,8 @@ module _ (fixed : Fixed) where
       pub downward : DownwardChain (fixed .kind) (state .slots) new chain
       pub announced : ticket .length ≡ length chain
       pub shortest : (other : List ℕ) → DownwardChain (fixed .kind) (state .slots) new other → ticket .length ≤ length other
-      pub carried-through : (between : List Call) (last : Call) → Stays-open (turn fixed state call .next) between
-          → Carries-through (after fixed (turn fixed state call .next) between) last
+      pub carried-through : (between : List Call) (last : Call) → StaysOpen (turn fixed state call .next) between
+          → CarriesThrough (after fixed (turn fixed state call .next) between) last
           → writes-made (turn fixed state call .next) (between ++ last ∷ []) ≡ ticket .length
 
     -- the first match after some events is the answer of the rules that are then in force, and they have no other
@@ -162,4 +152,10 @@ LawOfRun fixed slots trace calls =
 -- For every kind that keeps its law, every trace rule and board number, every device and every list of calls, refused or not.
 abbrev pub LawOfRuns : Type 0
 LawOfRuns =
-    (fixed : Fixed) → KindLaws (fixed .kind) → (slots : List Slot) (trace : ℕ) (calls : List Call) → All-sized calls → LawOfRun fixed slots trace calls
+    (fixed : Fixed) → KindLaws (fixed .kind) → (slots : List Slot) (trace : ℕ) (calls : List Call) → All Sized calls → LawOfRun fixed slots trace calls
+
+-- If a rule has a downward chain at all, the jump rule gives one, and none is shorter: in every table, also one out of order.
+abbrev pub JumpRule : Type 0
+JumpRule =
+    (kind : KindMeaning) (slots : List Slot) (new : Rule) (other : List ℕ) → DownwardChain kind slots new other
+    → DownwardChain kind slots new (jump-chain kind slots new) × (length (jump-chain kind slots new) ≤ length other)

@@ -1,8 +1,8 @@
 -- The machine: what each call on a board answers, the single writes and erases that it makes, and the state that it leaves.
 -- Assumes nothing.
-use mathlib.Core.Bool.{Bool, true, false, not, cond, _&&_, _||_}
+use mathlib.Core.Bool.{Bool, false, not, cond, _&&_, _||_}
 use mathlib.Core.List.{List, [], _∷_, reverse}
-use Prim.Native.Nat.{ℕ, zero, suc, _+_, _-_}
+use Prim.Native.Nat.{ℕ, zero, suc, _-_}
 use lib.Dec.{eqb, ltb}
 use lib.ListN.{length, getD, take, drop}
 use Rattle.std.specs.declared.option.Option.{Option}
@@ -14,7 +14,7 @@ use Rattle.rules.specs.declared.refusal.Refusal.{Refusal}
 use Rattle.rules.specs.declared.refusal.Refusal.the-variants.{Busy, Mangled, Known, Tied, Crossed, NoSlot, Unknown, Misdialled, Foreign, RunOut}
 use Rattle.rules.specs.Kinds.{KindMeaning}
 use Rattle.shifting.specs.Chains.{scan}
-use Rattle.shifting.specs.Slots.{Slot, at, carried-out, all-carried-out, tied, crossed, no-slot, jump-chain, first-match}
+use Rattle.shifting.specs.Slots.{Slot, at, holds, carried-out, all-carried-out, tied, crossed, no-slot, jump-chain, first-match}
 
 -- what a ticket names: the board, the number of the rule, and the length of its chain
 pub record Ticket : Type 0 where
@@ -133,8 +133,7 @@ told None = None
 told (Some rule) = Some (rule .number, rule .action)
 
 abbrev pub has-number : ℕ → Slot → Bool
-has-number number None = false
-has-number number (Some rule) = eqb (rule .number) number
+has-number number = holds (λ rule. eqb (rule .number) number)
 
 -- What a call answers, its single writes and erases, and the state that it leaves.
 pub record Turn : Type 0 where

@@ -1,10 +1,15 @@
 -- Rules in slots: their order, the span of a new rule, the reach of a taken slot, downward chains, and the first match.
 -- Slots are numbered from 0, and slot 0 wins. Assumes nothing.
+--
+-- An example with dial patterns and their priorities: slot 0 has 1X at 40, slot 1 has 2X at 30, slot 2 has 10 at 20, slot 3 is empty.
+-- 1X meets 10, so the order is right as long as every copy of 1X stands before every copy of 10. The reaches of the taken slots are 2, 3 and 3.
+-- A new ! at 50 meets all three with the higher priority: its span is slot 0 alone. Its downward chains are 0, 1, 3 and 0, 2, 3 and 0, 1, 2, 3,
+-- and the jump rule gives 0, 1, 3: then 2X goes to slot 3, 1X to slot 1, and last of all ! to slot 0.
 use mathlib.Core.Path.{_≡_}
-use mathlib.Core.Bool.{Bool, true, false, not, cond, _&&_}
+use mathlib.Core.Bool.{Bool, true, false, not, _&&_}
 use mathlib.Core.List.{List, [], _∷_}
-use mathlib.Core.Logic.{_⊎_, _≢_}
-use Prim.Native.Nat.{ℕ, zero, suc, _+_, _-_, _≤_, _<_, min}
+use mathlib.Core.Logic.{_≢_}
+use Prim.Native.Nat.{ℕ, zero, suc, _-_, _≤_, _<_, min}
 use lib.Dec.{eqb, ltb}
 use lib.ListN.{length, getD, set}
 use Rattle.std.specs.declared.option.Option.{Option}
@@ -12,7 +17,7 @@ use Rattle.std.specs.declared.option.Option.the-variants.{None, Some}
 use Rattle.rules.specs.declared.rule.Rule.{Rule}
 use Rattle.rules.specs.declared.event.Event.{Event}
 use Rattle.rules.specs.declared.event.Event.the-variants.{Write, Erase}
-use Rattle.rules.specs.Kinds.{KindMeaning, Word}
+use Rattle.rules.specs.Kinds.{KindMeaning}
 use Rattle.shifting.specs.Chains.{scan, past, some-below, Chain, jump}
 
 -- empty, or taken by a rule
@@ -23,12 +28,13 @@ Slot = Option Rule
 abbrev pub at : List Slot → ℕ → Slot
 at slots i = getD slots i None
 
-abbrev pub empty : Slot → Bool
-empty None = true
-empty (Some rule) = false
+-- whether a slot is taken by a rule that passes a test
+abbrev pub holds : (Rule → Bool) → Slot → Bool
+holds passes None = false
+holds passes (Some rule) = passes rule
 
 abbrev pub is-empty : List Slot → ℕ → Bool
-is-empty slots i = empty (at slots i)
+is-empty slots i = not (holds (λ rule. true) (at slots i))
 
 -- how many slots are taken
 abbrev pub taken : List Slot → ℕ
@@ -54,8 +60,7 @@ module _ (kind : KindMeaning) where
   matches rule subject = kind .matches (rule .«word_a») (rule .«word_b») subject
 
   abbrev pub slot-matches : ℕ → Slot → Bool
-  slot-matches subject None = false
-  slot-matches subject (Some rule) = matches rule subject
+  slot-matches subject = holds (λ rule. matches rule subject)
 
   abbrev pub meets : Rule → Rule → Bool
   meets rule other = kind .meets (rule .«word_a») (rule .«word_b») (other .«word_a») (other .«word_b»)
@@ -73,22 +78,17 @@ module _ (kind : KindMeaning) where
   -- Tests of a new rule against a slot: is it taken by a meeting rule with higher, lower or equal priority?
 
   abbrev pub above : Rule → Slot → Bool
-  above new None = false
-  above new (Some rule) = meets new rule && ltb (new .priority) (rule .priority)
+  above new = holds (λ rule. meets new rule && ltb (new .priority) (rule .priority))
 
   abbrev pub below : Rule → Slot → Bool
-  below new None = false
-  below new (Some rule) = meets new rule && ltb (rule .priority) (new .priority)
+  below new = holds (λ rule. meets new rule && ltb (rule .priority) (new .priority))
 
   abbrev pub level : Rule → Slot → Bool
-  level new None = false
-  level new (Some rule) = meets new rule && eqb (rule .priority) (new .priority)
+  level new = holds (λ rule. meets new rule && eqb (rule .priority) (new .priority))
 
-  -- a slot whose rule meets this one and has another number
+  -- a slot whose rule meets the rule in this one and has another number
   abbrev pub clashes : Slot → Slot → Bool
-  clashes None other = false
-  clashes (Some rule) None = false
-  clashes (Some rule) (Some other) = meets rule other && not (eqb (rule .number) (other .number))
+  clashes slot other = holds (λ rule. holds (λ later. meets rule later && not (eqb (rule .number) (later .number))) other) slot
 
   module _ (slots : List Slot) where
     -- The span of a new rule: low is one past the last slot whose rule meets it with higher priority, or 0;

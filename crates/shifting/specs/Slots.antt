@@ -11,18 +11,13 @@ use mathlib.Core.List.{List, [], _∷_}
 use mathlib.Core.Logic.{_≢_}
 use Prim.Native.Nat.{ℕ, zero, suc, _-_, _≤_, _<_, min}
 use lib.Dec.{eqb, ltb}
-use lib.ListN.{length, getD, set}
-use Rattle.std.specs.declared.option.Option.{Option}
+use lib.ListN.{length, getD}
 use Rattle.std.specs.declared.option.Option.the-variants.{None, Some}
 use Rattle.rules.specs.declared.rule.Rule.{Rule}
 use Rattle.rules.specs.declared.event.Event.{Event}
-use Rattle.rules.specs.declared.event.Event.the-variants.{Write, Erase}
 use Rattle.rules.specs.Kinds.{KindMeaning}
+pub use Rattle.rules.specs.Slots.{Slot, carried-out}
 use Rattle.shifting.specs.Chains.{scan, past, some-below, Chain, jump}
-
--- empty, or taken by a rule
-abbrev pub Slot : Type 0
-Slot = Option Rule
 
 -- what stands in a slot; past the last slot nothing does
 abbrev pub at : List Slot → ℕ → Slot
@@ -45,11 +40,6 @@ taken (Some rule ∷ others) = suc (taken others)
 -- only the first 480 slots of a device are used
 abbrev pub usable : List Slot → ℕ
 usable slots = min (length slots) 480
-
--- the slots once a write or an erase is carried out
-abbrev pub carried-out : List Slot → Event → List Slot
-carried-out slots (Write slot rule) = set slots slot (Some rule)
-carried-out slots (Erase slot) = set slots slot None
 
 abbrev pub all-carried-out : List Slot → List Event → List Slot
 all-carried-out slots [] = slots

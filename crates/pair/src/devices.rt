@@ -1,8 +1,10 @@
 // Two slot devices of one kind as one: the first's slots, then the second's.
 ghost use mathlib.Core.List.{_++_};
+ghost use mathlib.Core.Path.{_≡_};
 ghost use lib.ListN.{length};
-ghost use Rattle.rules.specs.Slots.{untraced};
+ghost use Rattle.rules.specs.Slots.{untraced, first-match};
 ghost use Rattle.rules.proofs.Records.{joined-lawful};
+ghost use Rattle.pair.specs.Halves.{match-of-halves};
 ghost use Rattle.pair.specs.Joined.{joined, BothLent, both-stored};
 use crate::half::Half;
 use crate::half::both_fit;
@@ -16,6 +18,24 @@ use rules::SlotDevice;
 pub struct Pair<D, E> {
     pub first: D,
     pub second: E,
+}
+
+impl<D: SlotDevice, E: SlotDevice<Kind = D::Kind>> Pair<D, E> {
+    fn match_in_halves(&self, subject: u64) -> Option<u16>
+        ensures { λ r. ⌜ r ≡ match-of-halves (length (D·SlotDevice .slots (now (self .entry) .first))) (length (E·SlotDevice .slots (now (self .entry) .second))) (first-match (Kind·Kind .meaning) (D·SlotDevice .slots (now (self .entry) .first)) subject) (first-match (Kind·Kind .meaning) (E·SlotDevice .slots (now (self .entry) .second)) subject) ⌝ }
+    {
+        let count = self.first.count();
+        if let Some(slot) = self.first.first_match(subject) {
+            return Some(slot);
+        }
+        if !both_fit(count, self.second.count()) {
+            return None;
+        }
+        match self.second.first_match(subject) {
+            Some(slot) => Some(count + slot),
+            None => None,
+        }
+    }
 }
 
 pub impl<D: SlotDevice, E: SlotDevice<Kind = D::Kind>> SlotDevice for Pair<D, E> as PairSlots {
@@ -70,16 +90,6 @@ pub impl<D: SlotDevice, E: SlotDevice<Kind = D::Kind>> SlotDevice for Pair<D, E>
     }
 
     fn first_match(&self, subject: u64) -> Option<u16> {
-        let first = self.first.count();
-        if let Some(slot) = self.first.first_match(subject) {
-            return Some(slot);
-        }
-        if !both_fit(first, self.second.count()) {
-            return None;
-        }
-        match self.second.first_match(subject) {
-            Some(slot) => Some(first + slot),
-            None => None,
-        }
+        self.match_in_halves(subject)
     }
 }

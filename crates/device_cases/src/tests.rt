@@ -5,6 +5,8 @@ use pair::Pair;
 use pair::PairSlots;
 use record_bank::RecordBank;
 use record_bank::RecordBankSlots;
+use recorder::Recorder;
+use recorder::RecorderSlots;
 use rules::Rule;
 use rules::SlotDevice;
 use std::test::*;
@@ -111,4 +113,17 @@ fn the_second_half_follows_the_first() -> Result<(), Fail> {
     check(pair.write(3, MANGLED).is_err())?;
     check_eq(number_at(&pair, 2), Some(0x0102))?;
     check(second[0].number == 0x0102)
+}
+
+#[test]
+fn a_recorder_shows_the_order_of_events() -> Result<(), Fail> {
+    let mut records = [Rule::ZERO; 2];
+    let mut recorder = Recorder {
+        device: RecordBank::over(&mut records),
+        trace: 1,
+    };
+    check(recorder.write(1, MANGLED).is_ok())?;
+    check(recorder.write(2, MANGLED).is_err())?;
+    check(recorder.erase(0).is_ok())?;
+    check(recorder.trace == 0x1_0102_0000)
 }

@@ -8,8 +8,9 @@ use native.Mathlib.Omega.{arith}
 use lib.ListN.{length, length-append}
 use Rattle.std.specs.declared.option.Option.{Option}
 use Rattle.std.specs.declared.option.Option.the-variants.{None, Some}
-use Rattle.std.proofs.shelf.Tests.{cond-true, cond-false, lt-ltb, le-ltb, cases-lt, cases-bool}
+use Rattle.std.proofs.shelf.Tests.{cond-true, cond-false, lt-ltb, le-ltb, le-leb, lt-leb, cases-lt, cases-bool}
 use Rattle.rules.specs.Slots.{Slot, first-place, place-within}
+use Rattle.pair.specs.Halves.{match-of-both, match-of-halves}
 use Rattle.pair.specs.Joined.{joined}
 use Rattle.pair.proofs.Joins.{joined-both, joined-alone}
 
@@ -60,7 +61,7 @@ module _ (passes : Slot → Bool) where
   found-at : (l : List Slot) (slot : ℕ) → first-place passes l ≡ slot → slot < length l → Some slot ≡ found l
   found-at l slot is below = sym (cond-true _ _ _ (lt-ltb (first-place passes l) (length l) (omega arith)) ∙ ap Some is)
 
-  pub match-first : (a b : List Slot) (slot : ℕ) → Some slot ≡ found a → Some slot ≡ found (joined a b)
+  match-first : (a b : List Slot) (slot : ℕ) → Some slot ≡ found a → Some slot ≡ found (joined a b)
   match-first a b slot is =
       let here = found-place a slot is in
       ⊎-elim
@@ -68,14 +69,26 @@ module _ (passes : Slot → Bool) where
       (λ fit. found-at (a ++ b) slot (place-left a b (here .1) ∙ here .0) (omega (arith, length-append a b, here .0, here .1)) ∙ sym (ap found (joined-both a b fit)))
       (cases-lt 65535 (length a + length b))
 
-  pub match-second : (a b : List Slot) (slot : ℕ) → length a + length b ≤ 65535 → None ≡ found a → Some slot ≡ found b → Some (length a + slot) ≡ found (joined a b)
+  match-second : (a b : List Slot) (slot : ℕ) → length a + length b ≤ 65535 → None ≡ found a → Some slot ≡ found b → Some (length a + slot) ≡ found (joined a b)
   match-second a b slot fit none is =
       let there = found-place b slot is in
       let place = place-right a b (none-found a none) in
       found-at (a ++ b) (length a + slot) (omega (arith, there .0)) (omega (arith, length-append a b, there .0, there .1)) ∙ sym (ap found (joined-both a b fit))
 
-  pub match-none : (a b : List Slot) → length a + length b ≤ 65535 → None ≡ found a → None ≡ found b → None ≡ found (joined a b)
+  match-none : (a b : List Slot) → length a + length b ≤ 65535 → None ≡ found a → None ≡ found b → None ≡ found (joined a b)
   match-none a b fit none none-second =
       let place = place-right a b (none-found a none) in
       let past = none-found b none-second in
       sym (cond-false _ _ _ (le-ltb (first-place passes (a ++ b)) (length (a ++ b)) (omega (arith, length-append a b)))) ∙ sym (ap found (joined-both a b fit))
+
+  match-joined : (a b : List Slot) (first second : Option ℕ) → length a + length b ≤ 65535 → first ≡ found a → second ≡ found b → match-of-both (length a) first second ≡ found (joined a b)
+  match-joined a b (Some slot) second fit is is-second = match-first a b slot is
+  match-joined a b None (Some slot) fit is is-second = match-second a b slot fit is is-second
+  match-joined a b None None fit is is-second = match-none a b fit is is-second
+
+  pub match-halves : (a b : List Slot) → match-of-halves (length a) (length b) (found a) (found b) ≡ found (joined a b)
+  match-halves a b =
+      ⊎-elim
+      (λ over. cond-false _ _ _ (lt-leb (length a + length b) 65535 over) ∙ sym (ap found (joined-alone a b over)))
+      (λ fit. cond-true _ _ _ (le-leb (length a + length b) 65535 fit) ∙ match-joined a b (found a) (found b) fit refl refl)
+      (cases-lt 65535 (length a + length b))

@@ -1,3 +1,4 @@
+mod Calls
 mod Counts
 mod Firsts
 mod Joins

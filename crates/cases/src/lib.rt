@@ -9,7 +9,7 @@ pub fn worked_cases() -> u8
     ensures count { λ r. ⌜ r ≡ length worked-cases ⌝ }
     ensures hold { λ _. ⌜ WorkedCases ⌝ }
 {
-    37
+    42
 }
 
 // What is wrong is refuted: a table out of order, a chain past a reach, a longer chain, writes that start at the first slot.

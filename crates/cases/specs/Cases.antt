@@ -7,11 +7,11 @@ use Prim.Native.Nat.{ℕ}
 use lib.ListN.{length}
 use Rattle.std.specs.declared.option.Option.the-variants.{None, Some}
 use Rattle.rules.specs.declared.rule.Rule.{Rule}
-use Rattle.rules.specs.declared.refusal.Refusal.the-variants.{Tied, Crossed, NoSlot}
+use Rattle.rules.specs.declared.refusal.Refusal.the-variants.{Busy, Tied, Crossed, NoSlot, Foreign}
 use Rattle.kinds.specs.DialRules.{dial-meaning}
 use Rattle.kinds.specs.PacketRules.{packet-meaning}
 use Rattle.shifting.specs.Slots.{Slot, reach, low, high, jump-chain}
-use Rattle.shifting.specs.Machine.{Ticket, Call, add, step, complete, withdraw, Answer, counted, refused, State, Fixed, cleared, turn, after}
+use Rattle.shifting.specs.Machine.{Ticket, Call, add, step, complete, withdraw, drop-rule, Answer, counted, refused, State, Fixed, cleared, turn, after}
 
 -- a dial rule by number, priority, action and pattern
 abbrev pub dial-rule : ℕ → ℕ → ℕ → ℕ → Rule
@@ -25,9 +25,9 @@ dial-board = record { kind = dial-meaning; traced = λ trace event. 0; board = 1
 abbrev pub idle : List Slot → List Rule → State
 idle slots rules = record { slots = slots; trace = 0; rules = rules; job = None }
 
--- the dial board on an empty device of six slots after some calls
-abbrev pub six-slots : List Call → State
-six-slots calls = after dial-board (cleared dial-board (None ∷ None ∷ None ∷ None ∷ None ∷ None ∷ []) 0) calls
+-- the dial board, just opened, on a device of six slots
+abbrev pub six-slots : State
+six-slots = cleared dial-board (None ∷ None ∷ None ∷ None ∷ None ∷ None ∷ []) 0
 
 pub data Case : Type 0 where
   dial-well-formed : (pattern b : ℕ) → Bool → Case
@@ -40,7 +40,7 @@ pub data Case : Type 0 where
   dial-reach : List Slot → (slot : ℕ) → ℕ → Case
   dial-span : List Slot → (new : Rule) → ℕ → ℕ → Case
   dial-chain : List Slot → (new : Rule) → List ℕ → Case
-  dial-run : (before : List Call) → Call → Answer → List Slot → Case
+  dial-run : State → (before : List Call) → Call → Answer → List Slot → Case
 
 abbrev pub Holds : Case → Type 0
 Holds (dial-well-formed pattern b answer) = dial-meaning .well-formed pattern b ≡ answer
@@ -53,8 +53,9 @@ Holds (dial-add state new answer) = turn dial-board state (add new) .answer ≡ 
 Holds (dial-reach slots slot answer) = reach dial-meaning slots slot ≡ answer
 Holds (dial-span slots new from to) = (low dial-meaning slots new ≡ from) × (high dial-meaning slots new ≡ to)
 Holds (dial-chain slots new chain) = jump-chain dial-meaning slots new ≡ chain
-Holds (dial-run before call answer slots) =
-    (turn dial-board (six-slots before) call .answer ≡ answer) × (turn dial-board (six-slots before) call .next .slots ≡ slots)
+Holds (dial-run start before call answer slots) =
+    let made = turn dial-board (after dial-board start before) call in
+    (made .answer ≡ answer) × (made .next .slots ≡ slots)
 
 -- 9! with number 1, priority 10 and action 100; 90 with number 2 and action 200
 abbrev pub nine : Rule
@@ -64,8 +65,18 @@ abbrev pub nine-zero : ℕ → Rule
 nine-zero priority = dial-rule 2 priority 200 0x90FF_FFFF_FFFF_FFFF
 
 -- 1X at priority 40, 2X at 30 and 10 at 20, in this order before an empty slot
+
+abbrev pub one-x : Rule
+one-x = dial-rule 1 40 0 0x1CFF_FFFF_FFFF_FFFF
+
+abbrev pub two-x : Rule
+two-x = dial-rule 2 30 0 0x2CFF_FFFF_FFFF_FFFF
+
+abbrev pub one-zero : Rule
+one-zero = dial-rule 3 20 0 0x10FF_FFFF_FFFF_FFFF
+
 abbrev pub three-taken : List Slot
-three-taken = Some (dial-rule 1 40 0 0x1CFF_FFFF_FFFF_FFFF) ∷ Some (dial-rule 2 30 0 0x2CFF_FFFF_FFFF_FFFF) ∷ Some (dial-rule 3 20 0 0x10FF_FFFF_FFFF_FFFF) ∷ None ∷ []
+three-taken = Some one-x ∷ Some two-x ∷ Some one-zero ∷ None ∷ []
 
 -- ! at priority 50
 abbrev pub everything : Rule
@@ -76,6 +87,10 @@ one = dial-rule 1 1 0 0x1FFF_FFFF_FFFF_FFFF
 
 abbrev pub two : Rule
 two = dial-rule 2 9 0 0x2FFF_FFFF_FFFF_FFFF
+
+-- the board with these three rules and an open add of !
+abbrev pub opened-all : State
+opened-all = after dial-board (idle three-taken (one-x ∷ two-x ∷ one-zero ∷ [])) (add everything ∷ [])
 
 -- the ticket of a rule on the dial board
 abbrev pub ticket : ℕ → ℕ → Ticket
@@ -137,8 +152,15 @@ worked-cases =
     ∷ dial-span three-taken everything 0 0
     ∷ dial-chain three-taken everything (0 ∷ 1 ∷ 3 ∷ [])
     -- 9! stands in the first of six slots, and 90 is withdrawn after one of its two writes: 9! stands where it stood
-    ∷ dial-run (add nine ∷ complete (ticket 1 1) ∷ add (nine-zero 20) ∷ step (ticket 2 2) ∷ []) (withdraw (ticket 2 2)) (counted 0)
+    ∷ dial-run six-slots (add nine ∷ complete (ticket 1 1) ∷ add (nine-zero 20) ∷ step (ticket 2 2) ∷ []) (withdraw (ticket 2 2)) (counted 0)
     (Some nine ∷ None ∷ None ∷ None ∷ None ∷ None ∷ [])
+    -- ! has the chain 0, 1, 3: after two writes 1X stands twice; then a complete puts ! into slot 0, and a withdraw erases slot 1, the last one written
+    ∷ dial-run opened-all (step (ticket 4 3) ∷ []) (step (ticket 4 3)) (counted 1) (Some one-x ∷ Some one-x ∷ Some one-zero ∷ Some two-x ∷ [])
+    ∷ dial-run opened-all (step (ticket 4 3) ∷ step (ticket 4 3) ∷ []) (complete (ticket 4 3)) (counted 3) (Some everything ∷ Some one-x ∷ Some one-zero ∷ Some two-x ∷ [])
+    ∷ dial-run opened-all (step (ticket 4 3) ∷ step (ticket 4 3) ∷ []) (withdraw (ticket 4 3)) (counted 0) (Some one-x ∷ None ∷ Some one-zero ∷ Some two-x ∷ [])
+    -- a ticket of another length is foreign, and a drop of number 0 is busy while an add is open
+    ∷ dial-run opened-all [] (step (ticket 4 2)) (refused Foreign) three-taken
+    ∷ dial-run opened-all [] (drop-rule 0) (refused Busy) three-taken
     ∷ []
 
 abbrev pub All-hold : List Case → Type 0

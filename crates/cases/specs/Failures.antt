@@ -2,13 +2,15 @@
 use mathlib.Core.Path.{_≡_}
 use mathlib.Core.Bool.{cond}
 use mathlib.Core.List.{List, [], _∷_, reverse}
-use Prim.Native.Nat.{ℕ, zero, suc, _≤_}
+use Prim.Native.Nat.{ℕ, zero, suc, _+_, _*_, _≤_}
 use lib.ListN.{length, take}
 use Rattle.std.specs.declared.option.Option.the-variants.{None, Some}
 use Rattle.rules.specs.declared.rule.Rule.{Rule}
+use Rattle.rules.specs.declared.event.Event.{Event}
+use Rattle.rules.specs.declared.event.Event.the-variants.{Write, Erase}
 use Rattle.kinds.specs.DialRules.{dial-meaning}
 use Rattle.shifting.specs.Slots.{Slot, is-empty, reach, high, usable, RightOrder, DownwardChain, jump-chain, first-match, all-carried-out}
-use Rattle.shifting.specs.Machine.{writes, told}
+use Rattle.shifting.specs.Machine.{writes, told, all-traced}
 use Rattle.shifting.specs.Law.{Answers}
 use Rattle.cases.specs.Cases.{dial-rule, nine, nine-zero, three-taken, everything}
 
@@ -25,11 +27,18 @@ abbrev pub nearest : List Slot → ℕ → ℕ → List ℕ
 nearest slots zero slot = []
 nearest slots (suc turns) slot = cond (is-empty slots slot) (slot ∷ []) (slot ∷ nearest slots turns (reach dial-meaning slots slot))
 
--- 9! stands in the first of two slots, and 90 is to come there: its writes turned round, the first slot first
-abbrev pub after-first-slot-first : ℕ → List Slot
-after-first-slot-first some =
-    let slots = Some nine ∷ None ∷ [] in
-    all-carried-out slots (take some (reverse (writes slots (nine-zero 20) (1 ∷ 0 ∷ []))))
+-- 9! stands in the first of two slots, and 90 is to come there
+
+abbrev pub nine-and-room : List Slot
+nine-and-room = Some nine ∷ None ∷ []
+
+abbrev pub nine-zero-writes : List Event
+nine-zero-writes = writes nine-and-room (nine-zero 20) (1 ∷ 0 ∷ [])
+
+-- a trace in which each event leaves its slot as a binary digit
+abbrev pub slots-traced : ℕ → Event → ℕ
+slots-traced trace (Write slot rule) = 2 * trace + slot
+slots-traced trace (Erase slot) = 2 * trace + slot
 
 pub record Failures : Type 0 where
   -- the rule of higher priority stands after one that it meets
@@ -42,4 +51,8 @@ pub record Failures : Type 0 where
   pub jump-takes-two : jump-chain dial-meaning one-two-two twos ≡ 0 ∷ 3 ∷ []
   pub nearest-not-shortest : ((other : List ℕ) → DownwardChain dial-meaning one-two-two twos other → 3 ≤ length other) → ⊥
   -- written first slot first, 9! is lost at the first write: the subject 91 finds nothing, where the rules answer 9!
-  pub first-slot-first : Answers dial-meaning (nine ∷ []) 0x91FF_FFFF_FFFF_FFFF (told (first-match dial-meaning (after-first-slot-first 1) 0x91FF_FFFF_FFFF_FFFF)) → ⊥
+  pub first-slot-first :
+      Answers dial-meaning (nine ∷ []) 0x91FF_FFFF_FFFF_FFFF
+      (told (first-match dial-meaning (all-carried-out nine-and-room (take 1 (reverse nine-zero-writes))) 0x91FF_FFFF_FFFF_FFFF)) → ⊥
+  -- and a trace rule shows the other order
+  pub order-in-trace : all-traced slots-traced 0 (reverse nine-zero-writes) ≡ all-traced slots-traced 0 nine-zero-writes → ⊥

@@ -11,9 +11,9 @@ use Rattle.std.specs.declared.option.Option.the-variants.{Some}
 use Rattle.std.proofs.shelf.Tests.{cond-both, eqb-false}
 use Rattle.std.proofs.shelf.Lists.{length-drop, length-reverse}
 use Rattle.rules.specs.declared.refusal.Refusal.{Refusal}
-use Rattle.rules.specs.declared.refusal.Refusal.the-variants.{Foreign, RunOut}
+use Rattle.rules.specs.declared.refusal.Refusal.the-variants.{RunOut}
 use Rattle.shifting.specs.Machine.{Call, add, step, complete, withdraw, drop-rule, change-action, look-up, Ticket, counted, refused, Job, State, Fixed, Turn}
-use Rattle.shifting.specs.Machine.{refuse, when-idle, names, when-named, make-one, make-all, take-back, written, writes, unwritten, turn, after}
+use Rattle.shifting.specs.Machine.{refuse, when-idle, make-one, make-all, take-back, written, writes, unwritten, turn, after}
 use Rattle.shifting.specs.Law.{TakesTicket, StaysOpen, CarriesThrough, writes-of, writes-made}
 use Rattle.shifting.proofs.Turns.{by-named, by-step}
 use Rattle.shifting.proofs.Sound.{length-writes}
@@ -54,37 +54,32 @@ module _ (fixed : Fixed) where
     same-open : (one : Job) → state .job ≡ Some one → one ≡ job
     same-open one is = let both : _≡_ {A = Option Job} (Some one) (Some job) = sym is ∙ is-open in cc
 
+    abbrev KeptBy : Turn → Type 0
+    KeptBy made = Kept job (length (made .events)) (made .next .job)
+
+    -- a call that does not answer with a count
+    abbrev Uncounted : Turn → Type 0
+    Uncounted made = ((n : ℕ) × (made .answer ≡ counted n)) → ⊥
+
     kept : (call : Call) → (TakesTicket fixed state call → ⊥) → Kept job (writes-of fixed state call) (turn fixed state call .next .job)
     kept (add new) stays = busy-kept _
     kept (step ticket) stays =
-        subst (λ open-add. (λ (done : Turn). Kept job (length (done .events)) (done .next .job)) (when-named fixed state ticket open-add (λ one. cond (written one) (refuse fixed state RunOut) (make-one fixed state one))))
-        (sym is-open)
-        (cond-both (names fixed state ticket job) _ (refuse fixed state Foreign) (λ done. Kept job (length (done .events)) (done .next .job))
-        (λ _. cond-both (written job) (refuse fixed state RunOut) (make-one fixed state job) (λ done. Kept job (length (done .events)) (done .next .job))
-        (λ _. same-job)
+        by-named fixed state KeptBy ticket (λ one. cond (written one) (refuse fixed state RunOut) (make-one fixed state one)) same-job (state .job)
+        (λ one is.
+        rw (same-open one is)
+        (by-step fixed state KeptBy job same-job
         (λ more.
         let other = eqb-false (job .made) (length (job .chain)) more in
-        record { made = suc (job .made); is = refl; counts = omega (arith, one-write state job short more); short = omega arith }))
-        (λ _. same-job))
+        record { made = suc (job .made); is = refl; counts = omega (arith, one-write state job short more); short = omega arith })))
     kept (complete ticket) stays =
-        subst (λ open-add. (λ (done : Turn). (((n : ℕ) × (done .answer ≡ counted n)) → ⊥) → Kept job (length (done .events)) (done .next .job)) (when-named fixed state ticket open-add (make-all fixed state)))
-        (sym is-open)
-        (cond-both (names fixed state ticket job) (make-all fixed state job) (refuse fixed state Foreign)
-        (λ done. (((n : ℕ) × (done .answer ≡ counted n)) → ⊥) → Kept job (length (done .events)) (done .next .job))
-        (λ _ open-still. absurd (open-still (length (job .chain), refl)))
-        (λ _ _. same-job))
-        (λ took. stays (ticket, took .0, inl refl, took .1))
+        by-named fixed state (λ made. Uncounted made → KeptBy made) ticket (make-all fixed state) (λ _. same-job) (state .job)
+        (λ one is uncounted. absurd (uncounted (length (one .chain), refl))) (λ took. stays (ticket, took .0, inl refl, took .1))
     kept (withdraw ticket) stays =
-        subst (λ open-add. (λ (done : Turn). (((n : ℕ) × (done .answer ≡ counted n)) → ⊥) → Kept job 0 (done .next .job)) (when-named fixed state ticket open-add (take-back fixed state)))
-        (sym is-open)
-        (cond-both (names fixed state ticket job) (take-back fixed state job) (refuse fixed state Foreign)
-        (λ done. (((n : ℕ) × (done .answer ≡ counted n)) → ⊥) → Kept job 0 (done .next .job))
-        (λ _ open-still. absurd (open-still (cond (written job) 1 0, refl)))
-        (λ _ _. same-job))
-        (λ took. stays (ticket, took .0, inr refl, took .1))
+        by-named fixed state (λ made. Uncounted made → Kept job 0 (made .next .job)) ticket (take-back fixed state) (λ _. same-job) (state .job)
+        (λ one is uncounted. absurd (uncounted (cond (written one) 1 0, refl))) (λ took. stays (ticket, took .0, inr refl, took .1))
     kept (drop-rule number) stays = busy-kept _
     kept (change-action number action) stays = busy-kept _
-    kept (look-up subject) stays = cond-both _ _ _ (λ (done : Turn). Kept job 0 (done .next .job)) (λ _. same-job) (λ _. same-job)
+    kept (look-up subject) stays = cond-both _ _ _ (λ (made : Turn). Kept job 0 (made .next .job)) (λ _. same-job) (λ _. same-job)
 
     last-step : (ticket : Ticket) → turn fixed state (step ticket) .answer ≡ counted 0 → job .made + length (turn fixed state (step ticket) .events) ≡ length (job .chain)
     last-step ticket =

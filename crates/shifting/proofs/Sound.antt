@@ -337,10 +337,16 @@ module _ (fixed : Fixed) (laws : KindLaws (fixed .kind)) where
 
   pub cleared-sound : (slots : List Slot) (trace : ℕ) → Sound (cleared fixed slots trace)
   cleared-sound slots trace =
+      let clear = cleared fixed slots trace .slots in
       let none = erases-none (length slots) 0 slots (λ i early. absurd (omega arith)) (omega arith) in
       record {
         ruled = record { fine = λ rule is. absurd is; untied = λ rule other is. absurd is; distinct = tt };
-        stocked = record { right = λ i j rule other at-i. nowhere (cleared fixed slots trace .slots) none i rule at-i; inside = λ i rule at-i. nowhere (cleared fixed slots trace .slots) none i rule at-i; stands = λ rule is. absurd is; only = λ i rule at-i. nowhere (cleared fixed slots trace .slots) none i rule at-i };
-        once = λ i j rule other at-i. nowhere (cleared fixed slots trace .slots) none i rule at-i;
-        count = taken-none (cleared fixed slots trace .slots) none;
+        stocked = record {
+          right = λ i j rule other at-i. nowhere clear none i rule at-i;
+          inside = λ i rule at-i. nowhere clear none i rule at-i;
+          stands = λ rule is. absurd is;
+          only = λ i rule at-i. nowhere clear none i rule at-i;
+        };
+        once = λ i j rule other at-i. nowhere clear none i rule at-i;
+        count = taken-none clear none;
       }

@@ -21,4 +21,5 @@ returns c =
           let more = least (0 ∷ 3 ∷ []) (record { from-low = omega arith; to-high = omega arith; within = omega arith }, (refl, omega arith, omega arith, refl)) in
           omega arith;
       first-slot-first = λ none. both-ways true (none nine (inl refl)) refl;
+      order-in-trace = λ same. omega arith;
     }

@@ -1,1 +1,3 @@
 pub mod Jobs
+pub mod Shown
+pub mod Led

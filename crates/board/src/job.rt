@@ -6,6 +6,7 @@ ghost use lib.ListN.{getD};
 ghost use Rattle.std.specs.declared.result.Result.the-variants.{Err};
 ghost use Rattle.rules.specs.declared.refusal.Refusal.the-variants.{Foreign};
 ghost use Rattle.board.specs.Jobs.{phase-of, naming, allowed, moved};
+ghost use Rattle.board.specs.Shown.{next-slot, slot-last, half-done, in-force};
 use crate::ticket::Named;
 use placing::Chain;
 use rules::Refusal;
@@ -154,15 +155,47 @@ impl Job {
         }
     }
 
-    // A slot of the chain by its place from the chain's end, where the writes begin.
-    pub(crate) fn from_end(&self, place: u16) -> u16
-        ensures { λ r. ⌜ r ≡ getD (now (self .entry) .chain .places) (now (self .entry) .chain .length - 1 - place) 0 ⌝ }
+    // The slot that the next write goes to: the last of those left.
+    pub(crate) fn next_slot(&self) -> u16
+        ensures { λ r. ⌜ r ≡ next-slot (now (self .entry)) ⌝ }
     {
-        let length = self.chain.length;
-        if place < length {
-            self.chain.slot(length - 1 - place)
+        let left = self.left();
+        if left > 0 {
+            self.chain.slot(left - 1)
         } else {
             self.chain.slot(0)
         }
+    }
+
+    // The chain's slot before that one.
+    pub(crate) fn slot_before(&self) -> u16
+        ensures { λ r. ⌜ r ≡ getD (now (self .entry) .chain .places) (now (self .entry) .chain .length - now (self .entry) .made - 2) 0 ⌝ }
+    {
+        let left = self.left();
+        if left > 1 {
+            self.chain.slot(left - 2)
+        } else {
+            self.chain.slot(0)
+        }
+    }
+
+    // The slot last written, if one was.
+    pub(crate) fn slot_written(&self) -> u16
+        ensures { λ r. ⌜ r ≡ slot-last (now (self .entry)) ⌝ }
+    {
+        self.chain.slot(self.left())
+    }
+
+    pub(crate) fn is_half_way(&self) -> bool
+        ensures { λ r. ⌜ r ≡ half-done (now (self .entry)) ⌝ }
+    {
+        self.made > 0 && self.made < self.chain.length
+    }
+
+    // 1 when the new rule is in force, otherwise 0.
+    pub(crate) fn in_force(&self) -> u16
+        ensures { λ r. ⌜ r ≡ in-force (now (self .entry)) ⌝ }
+    {
+        if self.left() > 0 { 0 } else { 1 }
     }
 }

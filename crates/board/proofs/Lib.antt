@@ -1,0 +1,5 @@
+mod Turned
+mod Adds
+mod Drops
+mod Writes
+mod Lawed

@@ -1,3 +1,4 @@
 pub mod Jobs
 pub mod Shown
 pub mod Led
+pub mod Calls

@@ -2,13 +2,17 @@
 mod adding;
 mod altering;
 mod board;
+mod calls;
 mod events;
 mod job;
 mod opening;
+mod serving;
 mod ticket;
 mod writing;
 
 pub use board::Board;
 pub use board::Returned;
+pub use calls::Answer;
+pub use calls::Call;
 pub use ticket::Named;
 pub use ticket::Ticket;

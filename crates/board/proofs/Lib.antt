@@ -3,3 +3,4 @@ mod Adds
 mod Drops
 mod Writes
 mod Lawed
+mod Serves

@@ -2,3 +2,4 @@ pub mod Jobs
 pub mod Shown
 pub mod Led
 pub mod Calls
+pub mod Serving

@@ -2,6 +2,7 @@
 mod adding;
 mod altering;
 mod board;
+mod caller;
 mod calls;
 mod events;
 mod job;
@@ -12,7 +13,9 @@ mod writing;
 
 pub use board::Board;
 pub use board::Returned;
+pub use caller::Caller;
 pub use calls::Answer;
 pub use calls::Call;
+pub use serving::serve;
 pub use ticket::Named;
 pub use ticket::Ticket;

@@ -1,12 +1,15 @@
 // Serving whoever issues calls, from a cleared board to the caller's end.
+ghost use mathlib.Core.List.{[]};
 ghost use mathlib.Core.Path.{_≡_};
 ghost use Rattle.shifting.specs.Law.{Sized};
 ghost use Rattle.board.specs.Shown.{seen, fixed-by, Takes};
 ghost use Rattle.board.specs.Calls.{call-of, answer-of};
+ghost use Rattle.board.specs.Serving.{past, Served};
 use crate::adding::open_add;
 use crate::altering::change_rule;
 use crate::altering::drop_rule;
 use crate::altering::look_up_rule;
+use crate::caller::Caller;
 use crate::calls::Answer;
 use crate::calls::Call;
 use crate::calls::closed;
@@ -15,6 +18,7 @@ use crate::calls::found;
 use crate::calls::opened;
 use crate::calls::stepped;
 use crate::job::Job;
+use crate::opening::clear;
 use crate::writing::complete_add;
 use crate::writing::step_add;
 use crate::writing::withdraw_add;
@@ -42,5 +46,18 @@ fn take_call<D: SlotDevice>(device: &mut D, number: u16, job: &mut Job, call: Ca
         Call::DropRule(rule) => done(drop_rule(device, number, job, rule)),
         Call::ChangeAction(rule, action) => done(change_rule(device, number, job, rule, action)),
         Call::LookUp(subject) => found(look_up_rule(device, number, job, subject)),
+    }
+}
+
+// Opens a board over a device and serves a caller to its end.
+pub fn serve<D: SlotDevice, C: Caller>(device: &mut D, number: u16, caller: &mut C)
+    requires { ⌜ C·Caller .holds (now caller) (past (fixed-by (Kind·Kind .meaning) (D·SlotDevice .traced) number) (D·SlotDevice .slots (now device)) (D·SlotDevice .trace (now device)) []) ⌝ }
+    ensures { λ _. ⌜ Served (C·Caller .ended) (fixed-by (Kind·Kind .meaning) (D·SlotDevice .traced) number) (D·SlotDevice .slots (now (device .entry))) (D·SlotDevice .trace (now (device .entry))) (now (caller .exit)) (D·SlotDevice .slots (now (device .exit))) (D·SlotDevice .trace (now (device .exit))) ⌝ }
+{
+    clear(device);
+    let mut job = Job::NONE;
+    while let Some(call) = caller.next() {
+        let answer = take_call(device, number, &mut job, call);
+        caller.hear(answer);
     }
 }

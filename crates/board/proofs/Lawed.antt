@@ -11,17 +11,17 @@ use Rattle.rules.specs.Slots.{erasing}
 use Rattle.rules.specs.Slots.{after as left-after}
 use Rattle.shifting.specs.Slots.{Slot}
 use Rattle.shifting.specs.Machine.{Call, Answer, State, Fixed, cleared, erases, turn, after}
-use Rattle.shifting.specs.Law.{Sized}
+use Rattle.shifting.proofs.Serving.{Brings, sized-from}
 use Rattle.shifting.proofs.Lawful.{law-of-runs}
 use Rattle.board.specs.Shown.{Seen, Shows, Takes}
 use Rattle.board.specs.Led.{Led, LedOn, Lawfully}
 use Rattle.board.proofs.Turned.{after-more, sized-more}
 use Rattle.board.proofs.Drops.{erasing-ok}
 
-pub lawfully : (fixed : Fixed) → KindLaws (fixed .kind) → (call : Call) (answer : Answer) (before behind : Seen) → Sized call → Takes fixed call answer before behind → Lawfully fixed call answer before behind
+pub lawfully : (fixed : Fixed) → KindLaws (fixed .kind) → (call : Call) (answer : Answer) (before behind : Seen) → Brings call → Takes fixed call answer before behind → Lawfully fixed call answer before behind
 lawfully fixed laws call answer before behind one takes slots trace calls led =
     let start = cleared fixed slots trace in
-    let sized = sized-more calls call (led .sized) one in
+    let sized = sized-more calls call (led .sized) (sized-from call one) in
     let taken = takes (after fixed start calls) (record { slots = slots; trace = trace; calls = calls; sized = led .sized; is = refl }) (led .shows) in
     record {
       answered = taken .0;

@@ -6,7 +6,8 @@ use Prim.Native.Nat.{ℕ}
 use Rattle.rules.specs.Kinds.{KindLaws}
 use Rattle.shifting.specs.Slots.{Slot}
 use Rattle.shifting.specs.Machine.{Call, Answer, State, Fixed, cleared, turn, after}
-use Rattle.shifting.specs.Law.{Sized, All-sized}
+use Rattle.std.specs.shelf.Lists.{All}
+use Rattle.shifting.specs.Law.{Sized}
 use Rattle.shifting.proofs.Lawful.{law-of-runs}
 use Rattle.board.specs.declared.job.Job.{Job}
 use Rattle.board.specs.Shown.{Seen, seen, Shows, Reached, Takes}
@@ -16,7 +17,7 @@ use Rattle.board.proofs.Turned.{after-more, sized-more}
 -- the calls so far, of which the caller knows, and the board that they led to
 pub record Serving {C : Type 0} (holds : Between C) (fixed : Fixed) (slots : List Slot) (trace : ℕ) (caller : C) (board : Seen) : Type 0 where
   pub calls : List Call
-  pub sized : All-sized calls
+  pub sized : All Sized calls
   pub shows : Shows board (after fixed (cleared fixed slots trace) calls)
   pub held : holds caller (past fixed slots trace calls)
 
@@ -25,7 +26,7 @@ abbrev pub Serves : {C : Type 0} → Between C → Fixed → C → Seen → C �
 Serves holds fixed first start caller board =
     (slots : List Slot) (trace : ℕ) → Shows start (cleared fixed slots trace) → holds first (past fixed slots trace []) → Serving holds fixed slots trace caller board
 
-pub reached-so : (fixed : Fixed) (slots : List Slot) (trace : ℕ) (calls : List Call) → All-sized calls → Reached fixed (after fixed (cleared fixed slots trace) calls)
+pub reached-so : (fixed : Fixed) (slots : List Slot) (trace : ℕ) (calls : List Call) → All Sized calls → Reached fixed (after fixed (cleared fixed slots trace) calls)
 reached-so fixed slots trace calls sized = record { slots = slots; trace = trace; calls = calls; sized = sized; is = refl }
 
 module _ {C : Type 0} (holds : Between C) (fixed : Fixed) where

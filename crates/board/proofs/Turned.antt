@@ -22,7 +22,9 @@ use Rattle.rules.specs.Kinds.{KindMeaning, KindLaws}
 use Rattle.shifting.specs.Slots.{Slot, all-carried-out}
 use Rattle.shifting.specs.Machine.{Ticket, Call, Answer, opened, counted, done, found, refused, State, Fixed, Turn, all-traced, does, refuse, when-idle, names, when-named, written, turn, after, cleared}
 use Rattle.shifting.specs.Machine.{Job as OpenAdd}
-use Rattle.shifting.specs.Law.{Sized, All-sized}
+use Rattle.std.specs.shelf.Lists.{All}
+use Rattle.shifting.proofs.Serving.{Brings, sized-from}
+use Rattle.shifting.specs.Law.{Sized}
 use Rattle.shifting.proofs.Sound.{Sound, sound-after, cleared-sound}
 use Rattle.board.specs.declared.ticket.Named.{Named}
 use Rattle.board.specs.declared.job.Job.{Job}
@@ -52,17 +54,17 @@ pub after-more : (fixed : Fixed) (calls : List Call) (state : State) (call : Cal
 after-more fixed [] state call = refl
 after-more fixed (first ∷ calls) state call = after-more fixed calls (turn fixed state first .next) call
 
-pub sized-more : (calls : List Call) (call : Call) → All-sized calls → Sized call → All-sized (calls ++ call ∷ [])
+pub sized-more : (calls : List Call) (call : Call) → All Sized calls → Sized call → All Sized (calls ++ call ∷ [])
 sized-more [] call sized one = (one, tt)
 sized-more (first ∷ calls) call sized one = (sized .0, sized-more calls call (sized .1) one)
 
-pub reached-next : (fixed : Fixed) (state : State) (call : Call) → Sized call → Reached fixed state → Reached fixed (turn fixed state call .next)
+pub reached-next : (fixed : Fixed) (state : State) (call : Call) → Brings call → Reached fixed state → Reached fixed (turn fixed state call .next)
 reached-next fixed state call one reached =
     record {
       slots = reached .slots;
       trace = reached .trace;
       calls = reached .calls ++ call ∷ [];
-      sized = sized-more (reached .calls) call (reached .sized) one;
+      sized = sized-more (reached .calls) call (reached .sized) (sized-from call one);
       is = ap (λ (s : State). turn fixed s call .next) (reached .is) ∙ sym (after-more fixed (reached .calls) (cleared fixed (reached .slots) (reached .trace)) call);
     }
 

@@ -25,6 +25,7 @@ use Rattle.rules.specs.Slots.{after as left-after}
 use Rattle.shifting.specs.Slots.{Slot, at, usable, all-carried-out}
 use Rattle.shifting.specs.Machine.{Ticket, step, complete, withdraw, counted, State, Fixed, Turn, held, received, writes, unwritten, written, half-way, last-written, all-traced, names, when-named, refuse, make-one, make-all, take-back, turn}
 use Rattle.shifting.specs.Machine.{Job as OpenAdd}
+use Rattle.shifting.proofs.Directions.{down}
 use Rattle.shifting.proofs.Reading.{set-here, some-same}
 use Rattle.shifting.proofs.Progress.{Start, Mid, Going, advance}
 use Rattle.shifting.proofs.Sound.{Sound, Phase as Holding, Opened}
@@ -123,7 +124,7 @@ close-busy board job named ok =
 
 module _ (fixed : Fixed) (laws : KindLaws (fixed .kind)) where
   -- a rule that a slot receives has a number
-  received-numbered : (new : Rule) (base : List Slot) (rules : List Rule) (gap : ℕ) (earlier : List ℕ) → Start (fixed .kind) laws new base rules gap earlier → received base new earlier .number ≢ 0
+  received-numbered : (new : Rule) (base : List Slot) (rules : List Rule) (gap : ℕ) (earlier : List ℕ) → Start (fixed .kind) laws (down (fixed .kind)) new base rules gap earlier → received base new earlier .number ≢ 0
   received-numbered new base rules gap [] start = start .fresh .fine .numbered
   received-numbered new base rules gap (before ∷ earlier) start =
       let link = start .back .0 in
@@ -131,7 +132,7 @@ module _ (fixed : Fixed) (laws : KindLaws (fixed .kind)) where
       λ zero-is. fine .numbered (sym (ap (λ (s : Slot). held s .number) (link .stands)) ∙ zero-is)
 
   -- what was written could be written
-  mid-possible : (new rule : Rule) (slots : List Slot) (rules : List Rule) (slot : ℕ) (earlier : List ℕ) → Mid (fixed .kind) laws new (set slots slot (Some rule)) rules slot earlier
+  mid-possible : (new rule : Rule) (slots : List Slot) (rules : List Rule) (slot : ℕ) (earlier : List ℕ) → Mid (fixed .kind) laws (down (fixed .kind)) new (set slots slot (Some rule)) rules slot earlier
       → (slot < length slots) × (rule .number ≢ 0)
   mid-possible new rule slots rules slot earlier mid =
       let base = mid .base in
@@ -149,9 +150,9 @@ module _ (fixed : Fixed) (laws : KindLaws (fixed .kind)) where
   next-possible : (state : State) (job : Job) (add : OpenAdd) → Opened fixed laws (state .slots) (state .rules) add → (next : Next (state .slots) job add)
       → (next .slot < length (state .slots)) × (received (state .slots) (add .rule) (next .earlier) .number ≢ 0)
   next-possible state job add opened next =
-      let going = subst (λ (left : List ℕ). Going (fixed .kind) laws (add .rule) (state .slots) (state .rules) (add .made) (last-written add) left) (next .left) (opened .going) in
+      let going = subst (λ (left : List ℕ). Going (fixed .kind) laws (down (fixed .kind)) (add .rule) (state .slots) (state .rules) (add .made) (last-written add) left) (next .left) (opened .going) in
       mid-possible (add .rule) (received (state .slots) (add .rule) (next .earlier)) (state .slots) _ (next .slot) (next .earlier)
-      (advance (fixed .kind) laws (add .rule) (state .slots) (state .rules) (add .made) (last-written add) (next .slot) (next .earlier) going)
+      (advance (fixed .kind) laws (down (fixed .kind)) (add .rule) (state .slots) (state .rules) (add .made) (last-written add) (next .slot) (next .earlier) going)
 
   abbrev next-event : List Slot → Job → Result Event Refusal
   next-event slots job = writing (length slots) (next-slot job) (next-rule slots job)

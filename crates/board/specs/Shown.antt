@@ -20,7 +20,8 @@ use Rattle.shifting.specs.Chains.{scan}
 use Rattle.shifting.specs.Slots.{Slot, at}
 use Rattle.shifting.specs.Machine.{Ticket, Call, Answer, opened, counted, done, found, refused, State, Fixed, Turn, cleared, held, has-number, turn, after}
 use Rattle.shifting.specs.Machine.{Job as OpenAdd}
-use Rattle.shifting.specs.Law.{All-sized}
+use Rattle.std.specs.shelf.Lists.{All}
+use Rattle.shifting.specs.Law.{Sized}
 use Rattle.placing.specs.Placing.{Names}
 use Rattle.board.specs.declared.ticket.Named.{Named}
 use Rattle.board.specs.declared.job.Job.{Job}
@@ -55,7 +56,7 @@ pub record Reached (fixed : Fixed) (state : State) : Type 0 where
   pub slots : List Slot
   pub trace : ℕ
   pub calls : List Call
-  pub sized : All-sized calls
+  pub sized : All Sized calls
   pub is : state ≡ after fixed (cleared fixed slots trace) calls
 
 abbrev pub fixed-by : KindMeaning → (ℕ → Event → ℕ) → ℕ → Fixed

@@ -28,8 +28,11 @@ abbrev pub holds : (Rule → Bool) → Slot → Bool
 holds passes None = false
 holds passes (Some rule) = passes rule
 
+abbrev pub empty : Slot → Bool
+empty slot = not (holds (λ rule. true) slot)
+
 abbrev pub is-empty : List Slot → ℕ → Bool
-is-empty slots i = not (holds (λ rule. true) (at slots i))
+is-empty slots i = empty (at slots i)
 
 -- how many slots are taken
 abbrev pub taken : List Slot → ℕ

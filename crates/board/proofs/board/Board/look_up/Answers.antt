@@ -9,4 +9,4 @@ use Rattle.board.proofs.board.Board.look_up.Needs as need
 pub returns : need.returns
 returns g c =
     let fixed = fixed-by (g .Kind·Kind .meaning) (g .D·SlotDevice .traced) (c .args .self .now .number) in
-    record { law = lawfully fixed (g .Kind·Kind·met .lawful) (look-up (c .args .subject)) _ _ _ (omega arith) (c .look-up-rule .ensures) }
+    record { law = lawfully fixed (g .Kind·Kind·met .lawful) (look-up (c .args .subject)) _ _ _ tt (c .look-up-rule .ensures) }

@@ -3,7 +3,7 @@ ghost use mathlib.Core.List.{[]};
 ghost use mathlib.Core.Path.{_≡_};
 ghost use Rattle.shifting.specs.Law.{Sized};
 ghost use Rattle.board.specs.Shown.{seen, fixed-by, Takes};
-ghost use Rattle.board.specs.Calls.{call-of, answer-of};
+ghost use Rattle.board.specs.Calls.{call-of, answer-of, returned, goes-back};
 ghost use Rattle.board.specs.Serving.{past, Served};
 use crate::adding::open_add;
 use crate::altering::change_rule;
@@ -27,6 +27,7 @@ use rules::SlotDevice;
 // One call, whichever it is.
 fn take_call<D: SlotDevice>(device: &mut D, number: u16, job: &mut Job, call: Call) -> Answer
     ensures takes { λ r. ⌜ Takes (fixed-by (Kind·Kind .meaning) (D·SlotDevice .traced) number) (call-of call) (answer-of r) (seen (D·SlotDevice .slots (now (device .entry))) (D·SlotDevice .trace (now (device .entry))) (now (job .entry))) (seen (D·SlotDevice .slots (now (device .exit))) (D·SlotDevice .trace (now (device .exit))) (now (job .exit))) ⌝ }
+    ensures back { λ r. ⌜ returned r ≡ goes-back (call-of call) (answer-of r) ⌝ }
     ensures sized { λ _. ⌜ Sized (call-of call) ⌝ }
     ensures same { λ _. ⌜ D·SlotDevice .lenders (now (device .exit)) ≡ D·SlotDevice .lenders (now (device .entry)) ⌝ }
 {

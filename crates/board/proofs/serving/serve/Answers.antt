@@ -1,6 +1,6 @@
 use mathlib.Core.Path.{refl, _∙_}
 use Rattle.board.specs.Shown.{fixed-by, seen}
-use Rattle.board.specs.Calls.{call-of, answer-of}
+use Rattle.board.specs.Calls.{call-of}
 use Rattle.board.proofs.Serves.{serves-more, serves-ended}
 use Rattle.board.proofs.serving.serve.Needs as need
 
@@ -9,8 +9,8 @@ loop-call-again g c = (
   c .take-call-answer .ensures .same ∙ c .loop-call .inv .0,
   λ slots trace shows held.
       let fixed = fixed-by (g .Kind·Kind .meaning) (g .D·SlotDevice .traced) (c .args .number) in
-      serves-more (g .C·Caller .holds) fixed (g .C·Caller .waits) slots trace (c .loop-call .caller) (c .next .last .self) (c .hear .last .self) _ _ (call-of (c .in-Some .call)) (answer-of (c .take-call-answer .result))
-      (c .loop-call .inv .1 slots trace shows held) (c .take-call-answer .ensures .sized) (c .take-call-answer .ensures .takes) (c .in-Some .ensures tt .asks) (c .hear .ensures .holds),
+      serves-more (g .C·Caller .holds) fixed (g .C·Caller .waits) slots trace (c .loop-call .caller) (c .next .last .self) (c .hear .last .self) _ _ (call-of (c .in-Some .call)) (c .take-call-answer .result)
+      (c .loop-call .inv .1 slots trace shows held) (c .take-call-answer .ensures .sized) (c .take-call-answer .ensures .takes) (c .take-call-answer .ensures .back) (c .in-Some .ensures tt .asks) (c .hear .ensures .holds),
 )
 
 pub returns : need.returns

@@ -11,7 +11,9 @@ use Rattle.shifting.specs.Law.{Sized}
 use Rattle.shifting.proofs.Lawful.{law-of-runs}
 use Rattle.board.specs.declared.job.Job.{Job}
 use Rattle.board.specs.Shown.{Seen, seen, Shows, Reached, Takes}
-use Rattle.board.specs.Serving.{Past, past, Between, Waiting, answer-to, one-more, Served}
+use Rattle.board.specs.declared.calls.Answer.{Answer as RealAnswer}
+use Rattle.board.specs.Calls.{answer-of, returned, goes-back}
+use Rattle.board.specs.Serving.{Past, past, Between, Waiting, Answers, one-more, Served}
 use Rattle.board.proofs.Turned.{after-more, sized-more}
 
 -- the calls so far, of which the caller knows, and the board that they led to
@@ -33,12 +35,12 @@ module _ {C : Type 0} (holds : Between C) (fixed : Fixed) where
   pub serves-start : (caller : C) (start : Seen) → Serves holds fixed caller start caller start
   serves-start caller start slots trace shows held = record { calls = []; sized = tt; shows = shows; held = held }
 
-  pub serves-more : (waits : Waiting C) (slots : List Slot) (trace : ℕ) (caller asking heard : C) (board behind : Seen) (call : Call) (answer : Answer)
-      → Serving holds fixed slots trace caller board → Sized call → Takes fixed call answer board behind
+  pub serves-more : (waits : Waiting C) (slots : List Slot) (trace : ℕ) (caller asking heard : C) (board behind : Seen) (call : Call) (answer : RealAnswer)
+      → Serving holds fixed slots trace caller board → Sized call → Takes fixed call (answer-of answer) board behind → returned answer ≡ goes-back call (answer-of answer)
       → ((before : Past) → holds caller before → waits asking before call)
-      → ((before : Past) (one : Call) → waits asking before one → answer ≡ answer-to before one → holds heard (one-more before one))
+      → ((before : Past) (one : Call) → waits asking before one → Answers before one answer → holds heard (one-more before one))
       → Serving holds fixed slots trace heard behind
-  serves-more waits slots trace caller asking heard board behind call answer on sized takes asks hears =
+  serves-more waits slots trace caller asking heard board behind call answer on sized takes back asks hears =
       let start = cleared fixed slots trace in
       let calls = on .calls in
       let taken = takes (after fixed start calls) (reached-so fixed slots trace calls (on .sized)) (on .shows) in
@@ -46,7 +48,7 @@ module _ {C : Type 0} (holds : Between C) (fixed : Fixed) where
         calls = calls ++ call ∷ [];
         sized = sized-more calls call (on .sized) sized;
         shows = subst (Shows behind) (sym (after-more fixed calls start call)) (taken .1);
-        held = hears (past fixed slots trace calls) call (asks (past fixed slots trace calls) (on .held)) (taken .0);
+        held = hears (past fixed slots trace calls) call (asks (past fixed slots trace calls) (on .held)) (record { answered = taken .0; back = back });
       }
 
   pub serves-ended : (laws : KindLaws (fixed .kind)) (ended : Between C) (slots : List Slot) (trace : ℕ) (caller asking : C) (board : Seen) → Serving holds fixed slots trace caller board

@@ -8,7 +8,8 @@ use Rattle.shifting.specs.Slots.{Slot}
 use Rattle.shifting.specs.Machine.{Call, Answer, State, Fixed, cleared, turn, after}
 use Rattle.shifting.specs.Law.{LawOfRun}
 use Rattle.board.specs.declared.calls.Call.{Call as RealCall}
-use Rattle.board.specs.Calls.{call-of}
+use Rattle.board.specs.declared.calls.Answer.{Answer as RealAnswer}
+use Rattle.board.specs.Calls.{call-of, answer-of, returned, goes-back}
 
 abbrev pub MachineCall : Type 0
 MachineCall = Call
@@ -29,6 +30,11 @@ state-of before = after (before .fixed) (cleared (before .fixed) (before .slots)
 -- the machine's answer to one call more
 abbrev pub answer-to : Past → Call → Answer
 answer-to before call = turn (before .fixed) (state-of before) call .answer
+
+-- an answer to that call: the machine's, and with the call's own ticket where one goes back
+pub record Answers (before : Past) (call : Call) (answer : RealAnswer) : Type 0 where
+  pub answered : answer-of answer ≡ answer-to before call
+  pub back : returned answer ≡ goes-back call (answer-of answer)
 
 abbrev pub one-more : Past → Call → Past
 one-more before call = past (before .fixed) (before .slots) (before .trace) (before .calls ++ call ∷ [])

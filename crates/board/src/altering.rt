@@ -38,7 +38,8 @@ pub(crate) fn drop_rule<D: SlotDevice>(
     job: &Job,
     rule: u16,
 ) -> Result<(), Refusal>
-    ensures { λ r. ⌜ Takes (fixed-by (Kind·Kind .meaning) (D·SlotDevice .traced) number) (drop-rule rule) (doing r) (seen (D·SlotDevice .slots (now (device .entry))) (D·SlotDevice .trace (now (device .entry))) (now (job .entry))) (seen (D·SlotDevice .slots (now (device .exit))) (D·SlotDevice .trace (now (device .exit))) (now (job .entry))) ⌝ }
+    ensures takes { λ r. ⌜ Takes (fixed-by (Kind·Kind .meaning) (D·SlotDevice .traced) number) (drop-rule rule) (doing r) (seen (D·SlotDevice .slots (now (device .entry))) (D·SlotDevice .trace (now (device .entry))) (now (job .entry))) (seen (D·SlotDevice .slots (now (device .exit))) (D·SlotDevice .trace (now (device .exit))) (now (job .entry))) ⌝ }
+    ensures same { λ _. ⌜ D·SlotDevice .lenders (now (device .exit)) ≡ D·SlotDevice .lenders (now (device .entry)) ⌝ }
 {
     job.allows(number, Request::Alter)?;
     let slot = slot_of(device, rule)?;
@@ -75,7 +76,8 @@ pub(crate) fn change_rule<D: SlotDevice>(
     rule: u16,
     action: u32,
 ) -> Result<(), Refusal>
-    ensures { λ r. ⌜ Takes (fixed-by (Kind·Kind .meaning) (D·SlotDevice .traced) number) (change-action rule action) (doing r) (seen (D·SlotDevice .slots (now (device .entry))) (D·SlotDevice .trace (now (device .entry))) (now (job .entry))) (seen (D·SlotDevice .slots (now (device .exit))) (D·SlotDevice .trace (now (device .exit))) (now (job .entry))) ⌝ }
+    ensures takes { λ r. ⌜ Takes (fixed-by (Kind·Kind .meaning) (D·SlotDevice .traced) number) (change-action rule action) (doing r) (seen (D·SlotDevice .slots (now (device .entry))) (D·SlotDevice .trace (now (device .entry))) (now (job .entry))) (seen (D·SlotDevice .slots (now (device .exit))) (D·SlotDevice .trace (now (device .exit))) (now (job .entry))) ⌝ }
+    ensures same { λ _. ⌜ D·SlotDevice .lenders (now (device .exit)) ≡ D·SlotDevice .lenders (now (device .entry)) ⌝ }
 {
     job.allows(number, Request::Alter)?;
     let slot = slot_of(device, rule)?;

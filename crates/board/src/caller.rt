@@ -1,9 +1,7 @@
 // Whoever issues calls to a board.
 ghost use denote.Ref.{now};
-ghost use mathlib.Core.Path.{_≡_};
 ghost use Prim.Native.Nat.{ℕ, _≤_};
-ghost use Rattle.board.specs.Calls.{answer-of};
-ghost use Rattle.board.specs.Serving.{Past, MachineCall, Between, Waiting, Asks, Fewer, answer-to, one-more};
+ghost use Rattle.board.specs.Serving.{Past, MachineCall, Between, Waiting, Asks, Answers, Fewer, one-more};
 use crate::calls::Answer;
 use crate::calls::Call;
 
@@ -27,7 +25,7 @@ pub trait Caller {
         ensures fewer { λ r. ⌜ Fewer (left (now (self .entry))) (left (now (self .exit))) r ⌝ };
 
     fn hear(&mut self, answer: Answer)
-        requires { ⌜ ((before : Past) × (call : MachineCall) × waits (now self) before call × (answer-of answer ≡ answer-to before call)) ⌝ }
-        ensures holds { λ _. ⌜ ((before : Past) (call : MachineCall) → waits (now (self .entry)) before call → answer-of answer ≡ answer-to before call → holds (now (self .exit)) (one-more before call)) ⌝ }
+        requires { ⌜ ((before : Past) × (call : MachineCall) × waits (now self) before call × Answers before call answer) ⌝ }
+        ensures holds { λ _. ⌜ ((before : Past) (call : MachineCall) → waits (now (self .entry)) before call → Answers before call answer → holds (now (self .exit)) (one-more before call)) ⌝ }
         ensures fewer { λ _. ⌜ left (now (self .exit)) ≤ left (now (self .entry)) ⌝ };
 }

@@ -1,7 +1,8 @@
 // Calls and answers as values, with real tickets inside.
 ghost use mathlib.Core.Path.{_≡_};
-ghost use Rattle.board.specs.Shown.{opening, counting, doing, finding};
-ghost use Rattle.board.specs.Calls.{answer-of};
+ghost use Rattle.std.specs.declared.option.Option.the-variants.{None, Some};
+ghost use Rattle.board.specs.Shown.{opening, counting, doing, finding, ticket-of};
+ghost use Rattle.board.specs.Calls.{answer-of, returned, on-refusal};
 use crate::ticket::Named;
 use crate::ticket::Ticket;
 use rules::Refusal;
@@ -31,7 +32,8 @@ pub enum Answer {
 }
 
 pub(crate) fn opened(result: Result<Named, Refusal>) -> Answer
-    ensures { λ r. ⌜ answer-of r ≡ opening result ⌝ }
+    ensures answer { λ r. ⌜ answer-of r ≡ opening result ⌝ }
+    ensures back { λ r. ⌜ returned r ≡ None ⌝ }
 {
     match result {
         Ok(named) => Answer::Opened(Ticket::of(named)),
@@ -40,7 +42,8 @@ pub(crate) fn opened(result: Result<Named, Refusal>) -> Answer
 }
 
 pub(crate) fn stepped(result: Result<u16, Refusal>, ticket: Ticket) -> Answer
-    ensures { λ r. ⌜ answer-of r ≡ counting result ⌝ }
+    ensures answer { λ r. ⌜ answer-of r ≡ counting result ⌝ }
+    ensures back { λ r. ⌜ returned r ≡ Some (ticket-of (ticket .named)) ⌝ }
 {
     match result {
         Ok(left) => Answer::Stepped(left, ticket),
@@ -49,7 +52,8 @@ pub(crate) fn stepped(result: Result<u16, Refusal>, ticket: Ticket) -> Answer
 }
 
 pub(crate) fn closed(result: Result<u16, Refusal>, ticket: Ticket) -> Answer
-    ensures { λ r. ⌜ answer-of r ≡ counting result ⌝ }
+    ensures answer { λ r. ⌜ answer-of r ≡ counting result ⌝ }
+    ensures back { λ r. ⌜ returned r ≡ on-refusal (ticket-of (ticket .named)) (answer-of r) ⌝ }
 {
     match result {
         Ok(count) => {
@@ -61,7 +65,8 @@ pub(crate) fn closed(result: Result<u16, Refusal>, ticket: Ticket) -> Answer
 }
 
 pub(crate) fn done(result: Result<(), Refusal>) -> Answer
-    ensures { λ r. ⌜ answer-of r ≡ doing result ⌝ }
+    ensures answer { λ r. ⌜ answer-of r ≡ doing result ⌝ }
+    ensures back { λ r. ⌜ returned r ≡ None ⌝ }
 {
     match result {
         Ok(()) => Answer::Done,
@@ -70,7 +75,8 @@ pub(crate) fn done(result: Result<(), Refusal>) -> Answer
 }
 
 pub(crate) fn found(result: Result<Option<(u16, u32)>, Refusal>) -> Answer
-    ensures { λ r. ⌜ answer-of r ≡ finding result ⌝ }
+    ensures answer { λ r. ⌜ answer-of r ≡ finding result ⌝ }
+    ensures back { λ r. ⌜ returned r ≡ None ⌝ }
 {
     match result {
         Ok(told) => Answer::Found(told),

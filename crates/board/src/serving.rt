@@ -3,7 +3,7 @@ ghost use mathlib.Core.List.{[]};
 ghost use mathlib.Core.Path.{_≡_};
 ghost use Rattle.shifting.specs.Law.{Sized};
 ghost use Rattle.board.specs.Shown.{seen, fixed-by, Takes};
-ghost use Rattle.board.specs.Calls.{call-of, answer-of};
+ghost use Rattle.board.specs.Calls.{call-of, answer-of, returned, goes-back};
 ghost use Rattle.board.specs.Serving.{past, Served};
 use crate::adding::open_add;
 use crate::altering::change_rule;
@@ -27,7 +27,9 @@ use rules::SlotDevice;
 // One call, whichever it is.
 fn take_call<D: SlotDevice>(device: &mut D, number: u16, job: &mut Job, call: Call) -> Answer
     ensures takes { λ r. ⌜ Takes (fixed-by (Kind·Kind .meaning) (D·SlotDevice .traced) number) (call-of call) (answer-of r) (seen (D·SlotDevice .slots (now (device .entry))) (D·SlotDevice .trace (now (device .entry))) (now (job .entry))) (seen (D·SlotDevice .slots (now (device .exit))) (D·SlotDevice .trace (now (device .exit))) (now (job .exit))) ⌝ }
+    ensures back { λ r. ⌜ returned r ≡ goes-back (call-of call) (answer-of r) ⌝ }
     ensures sized { λ _. ⌜ Sized (call-of call) ⌝ }
+    ensures same { λ _. ⌜ D·SlotDevice .lenders (now (device .exit)) ≡ D·SlotDevice .lenders (now (device .entry)) ⌝ }
 {
     match call {
         Call::Add(new) => opened(open_add(device, number, job, new)),
@@ -49,10 +51,11 @@ fn take_call<D: SlotDevice>(device: &mut D, number: u16, job: &mut Job, call: Ca
     }
 }
 
-// Opens a board over a device and serves a caller to its end.
+// Opens a board over a device and serves a caller to its end. Whoever lent the device its memory knows it again by the loans, which stay the same.
 pub fn serve<D: SlotDevice, C: Caller>(device: &mut D, number: u16, caller: &mut C)
     requires { ⌜ C·Caller .holds (now caller) (past (fixed-by (Kind·Kind .meaning) (D·SlotDevice .traced) number) (D·SlotDevice .slots (now device)) (D·SlotDevice .trace (now device)) []) ⌝ }
-    ensures { λ _. ⌜ Served (C·Caller .ended) (fixed-by (Kind·Kind .meaning) (D·SlotDevice .traced) number) (D·SlotDevice .slots (now (device .entry))) (D·SlotDevice .trace (now (device .entry))) (now (caller .exit)) (D·SlotDevice .slots (now (device .exit))) (D·SlotDevice .trace (now (device .exit))) ⌝ }
+    ensures served { λ _. ⌜ Served (C·Caller .ended) (fixed-by (Kind·Kind .meaning) (D·SlotDevice .traced) number) (D·SlotDevice .slots (now (device .entry))) (D·SlotDevice .trace (now (device .entry))) (now (caller .exit)) (D·SlotDevice .slots (now (device .exit))) (D·SlotDevice .trace (now (device .exit))) ⌝ }
+    ensures same { λ _. ⌜ D·SlotDevice .lenders (now (device .exit)) ≡ D·SlotDevice .lenders (now (device .entry)) ⌝ }
 {
     clear(device);
     let mut job = Job::NONE;

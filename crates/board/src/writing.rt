@@ -47,7 +47,8 @@ pub(crate) fn step_add<D: SlotDevice>(
     job: &mut Job,
     named: Named,
 ) -> Result<u16, Refusal>
-    ensures { λ r. ⌜ Takes (fixed-by (Kind·Kind .meaning) (D·SlotDevice .traced) number) (step (ticket-of named)) (counting r) (seen (D·SlotDevice .slots (now (device .entry))) (D·SlotDevice .trace (now (device .entry))) (now (job .entry))) (seen (D·SlotDevice .slots (now (device .exit))) (D·SlotDevice .trace (now (device .exit))) (now (job .exit))) ⌝ }
+    ensures takes { λ r. ⌜ Takes (fixed-by (Kind·Kind .meaning) (D·SlotDevice .traced) number) (step (ticket-of named)) (counting r) (seen (D·SlotDevice .slots (now (device .entry))) (D·SlotDevice .trace (now (device .entry))) (now (job .entry))) (seen (D·SlotDevice .slots (now (device .exit))) (D·SlotDevice .trace (now (device .exit))) (now (job .exit))) ⌝ }
+    ensures same { λ _. ⌜ D·SlotDevice .lenders (now (device .exit)) ≡ D·SlotDevice .lenders (now (device .entry)) ⌝ }
 {
     job.allows(number, Request::Step(named))?;
     write_next(device, job);
@@ -61,7 +62,8 @@ pub(crate) fn complete_add<D: SlotDevice>(
     job: &mut Job,
     named: Named,
 ) -> Result<u16, Refusal>
-    ensures { λ r. ⌜ Takes (fixed-by (Kind·Kind .meaning) (D·SlotDevice .traced) number) (complete (ticket-of named)) (counting r) (seen (D·SlotDevice .slots (now (device .entry))) (D·SlotDevice .trace (now (device .entry))) (now (job .entry))) (seen (D·SlotDevice .slots (now (device .exit))) (D·SlotDevice .trace (now (device .exit))) (now (job .exit))) ⌝ }
+    ensures takes { λ r. ⌜ Takes (fixed-by (Kind·Kind .meaning) (D·SlotDevice .traced) number) (complete (ticket-of named)) (counting r) (seen (D·SlotDevice .slots (now (device .entry))) (D·SlotDevice .trace (now (device .entry))) (now (job .entry))) (seen (D·SlotDevice .slots (now (device .exit))) (D·SlotDevice .trace (now (device .exit))) (now (job .exit))) ⌝ }
+    ensures same { λ _. ⌜ D·SlotDevice .lenders (now (device .exit)) ≡ D·SlotDevice .lenders (now (device .entry)) ⌝ }
 {
     job.allows(number, Request::Close(named))?;
     while job.left() > 0 {
@@ -88,7 +90,8 @@ pub(crate) fn withdraw_add<D: SlotDevice>(
     job: &mut Job,
     named: Named,
 ) -> Result<u16, Refusal>
-    ensures { λ r. ⌜ Takes (fixed-by (Kind·Kind .meaning) (D·SlotDevice .traced) number) (withdraw (ticket-of named)) (counting r) (seen (D·SlotDevice .slots (now (device .entry))) (D·SlotDevice .trace (now (device .entry))) (now (job .entry))) (seen (D·SlotDevice .slots (now (device .exit))) (D·SlotDevice .trace (now (device .exit))) (now (job .exit))) ⌝ }
+    ensures takes { λ r. ⌜ Takes (fixed-by (Kind·Kind .meaning) (D·SlotDevice .traced) number) (withdraw (ticket-of named)) (counting r) (seen (D·SlotDevice .slots (now (device .entry))) (D·SlotDevice .trace (now (device .entry))) (now (job .entry))) (seen (D·SlotDevice .slots (now (device .exit))) (D·SlotDevice .trace (now (device .exit))) (now (job .exit))) ⌝ }
+    ensures same { λ _. ⌜ D·SlotDevice .lenders (now (device .exit)) ≡ D·SlotDevice .lenders (now (device .entry)) ⌝ }
 {
     job.allows(number, Request::Close(named))?;
     let told = job.in_force();

@@ -17,8 +17,11 @@ returns-in-Break-slot g c =
     let slots = g .D·SlotDevice .slots (c .args .device .now) in
     let trace = g .D·SlotDevice .trace (c .args .device .now) in
     let job = c .args .job .now in
-    subst (λ (r : Result (Unit {0}) Refusal). Takes fixed (change-action (c .args .rule) (c .args .action)) (doing r) (seen slots trace job) (seen slots trace job)) (sym (at-exit (c .from-residual-in-Break-slot .result) _ (c .from-residual-in-Break-slot .ensures .1)))
-    (change-unknown fixed slots trace job (c .in-Continue-allows .ensures tt) (c .args .rule) _ (c .in-Break-slot .ensures tt) (c .args .action))
+    record {
+      takes = subst (λ (r : Result (Unit {0}) Refusal). Takes fixed (change-action (c .args .rule) (c .args .action)) (doing r) (seen slots trace job) (seen slots trace job)) (sym (at-exit (c .from-residual-in-Break-slot .result) _ (c .from-residual-in-Break-slot .ensures .1)))
+          (change-unknown fixed slots trace job (c .in-Continue-allows .ensures tt) (c .args .rule) _ (c .in-Break-slot .ensures tt) (c .args .action));
+      same = refl;
+    }
 
 pub returns : need.returns
 returns g c =
@@ -28,7 +31,10 @@ returns g c =
     let job = c .args .job .now in
     let slot = c .in-Continue-slot .slot in
     let rule-is : c .with-action .result ≡ with-action (c .args .action) (held (at slots slot)) = c .with-action .ensures ∙ ap (with-action (c .args .action)) (c .held-at-held .ensures) in
-    change-done fixed slots trace job (c .in-Continue-allows .ensures tt) (c .args .rule) slot _ _ _ (c .in-Continue-slot .ensures tt) (c .args .action)
-    (c .write-slot .ensures .answer ∙ ap (λ (rule : Rule). answer (writing (length slots) slot rule)) rule-is)
-    (c .write-slot .ensures .slots ∙ ap (λ (rule : Rule). after carried-out slots (writing (length slots) slot rule)) rule-is)
-    (c .write-slot .ensures .trace ∙ ap (λ (rule : Rule). after (g .D·SlotDevice .traced) trace (writing (length slots) slot rule)) rule-is)
+    record {
+      takes = change-done fixed slots trace job (c .in-Continue-allows .ensures tt) (c .args .rule) slot _ _ _ (c .in-Continue-slot .ensures tt) (c .args .action)
+          (c .write-slot .ensures .answer ∙ ap (λ (rule : Rule). answer (writing (length slots) slot rule)) rule-is)
+          (c .write-slot .ensures .slots ∙ ap (λ (rule : Rule). after carried-out slots (writing (length slots) slot rule)) rule-is)
+          (c .write-slot .ensures .trace ∙ ap (λ (rule : Rule). after (g .D·SlotDevice .traced) trace (writing (length slots) slot rule)) rule-is);
+      same = c .write-slot .ensures .same;
+    }

@@ -17,4 +17,16 @@ returns g c =
     let slots = g .D·SlotDevice .slots (c .args .device .now) in
     let trace = g .D·SlotDevice .trace (c .args .device .now) in
     let job = c .args .job .now in
-    drop-done fixed slots trace job (c .in-Continue-allows .ensures tt) (c .args .rule) (c .in-Continue-slot .slot) _ _ _ (c .in-Continue-slot .ensures tt) (c .erase-slot .ensures .answer) (c .erase-slot .ensures .slots) (c .erase-slot .ensures .trace)
+    record { takes = drop-done fixed slots trace job (c .in-Continue-allows .ensures tt) (c .args .rule) (c .in-Continue-slot .slot) _ _ _ (c .in-Continue-slot .ensures tt) (c .erase-slot .ensures .answer) (c .erase-slot .ensures .slots) (c .erase-slot .ensures .trace); same = c .erase-slot .ensures .same }
+
+pub returns-in-Break-slot : need.returns-in-Break-slot
+returns-in-Break-slot g c =
+    let fixed = fixed-by (g .Kind·Kind .meaning) (g .D·SlotDevice .traced) (c .args .number) in
+    let slots = g .D·SlotDevice .slots (c .args .device .now) in
+    let trace = g .D·SlotDevice .trace (c .args .device .now) in
+    let job = c .args .job .now in
+    record {
+      takes = subst (λ (r : Result (Unit {0}) Refusal). Takes fixed (drop-rule (c .args .rule)) (doing r) (seen slots trace job) (seen slots trace job)) (sym (at-exit (c .from-residual-in-Break-slot .result) _ (c .from-residual-in-Break-slot .ensures .1)))
+          (drop-unknown fixed slots trace job (c .in-Continue-allows .ensures tt) (c .args .rule) _ (c .in-Break-slot .ensures tt));
+      same = refl;
+    }

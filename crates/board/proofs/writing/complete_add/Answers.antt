@@ -16,14 +16,17 @@ returns-in-Break-allows g c =
     let slots = g .D·SlotDevice .slots (c .args .device .now) in
     let trace = g .D·SlotDevice .trace (c .args .device .now) in
     let job = c .args .job .now in
-    subst (λ (r : Result ℕ Refusal). Takes fixed (complete (ticket-of (c .args .named))) (counting r) (seen slots trace job) (seen slots trace job)) (sym (at-exit (c .from-residual .result) _ (c .from-residual .ensures .1)))
-    (complete-refused fixed (g .Kind·Kind·met .lawful) (seen slots trace job) (c .args .named) _ (c .in-Break-allows .ensures tt))
+    record {
+      takes = subst (λ (r : Result ℕ Refusal). Takes fixed (complete (ticket-of (c .args .named))) (counting r) (seen slots trace job) (seen slots trace job)) (sym (at-exit (c .from-residual .result) _ (c .from-residual .ensures .1)))
+          (complete-refused fixed (g .Kind·Kind·met .lawful) (seen slots trace job) (c .args .named) _ (c .in-Break-allows .ensures tt));
+      same = refl;
+    }
 
 pub loop-device-holds : need.loop-device-holds
 loop-device-holds g c =
     let fixed = fixed-by (g .Kind·Kind .meaning) (g .D·SlotDevice .traced) (c .args .number) in
     let start = seen (g .D·SlotDevice .slots (c .args .device .now)) (g .D·SlotDevice .trace (c .args .device .now)) (c .args .job .now) in
-    (close-busy (c .args .number) (c .args .job .now) (c .args .named) (c .in-Continue-allows .ensures tt), λ named. on-start fixed named start)
+    (close-busy (c .args .number) (c .args .job .now) (c .args .named) (c .in-Continue-allows .ensures tt), refl, λ named. on-start fixed named start)
 
 pub loop-device-again : need.loop-device-again
 loop-device-again g c =
@@ -33,9 +36,10 @@ loop-device-again g c =
     let more : c .loop-device .job .made < c .loop-device .job .chain .length = omega arith in
     let further-is = wrote-further (c .loop-device .job) (c .write-next .last .job) (c .loop-device .inv .0) more (c .write-next .ensures .job) in (
       ap (λ (j : Job). j .busy) further-is ∙ c .loop-device .inv .0,
+      c .write-next .ensures .same ∙ c .loop-device .inv .1,
       λ named.
           on-more fixed (g .Kind·Kind·met .lawful) named start before _ more
-          (record { slots = c .write-next .ensures .slots; trace = c .write-next .ensures .trace; job = c .write-next .ensures .job }) (c .loop-device .inv .1 named),
+          (record { slots = c .write-next .ensures .slots; trace = c .write-next .ensures .trace; job = c .write-next .ensures .job }) (c .loop-device .inv .2 named),
     )
 
 pub loop-device-less : need.loop-device-less
@@ -51,4 +55,4 @@ returns g c =
     let fixed = fixed-by (g .Kind·Kind .meaning) (g .D·SlotDevice .traced) (c .args .number) in
     let start = seen (g .D·SlotDevice .slots (c .args .device .now)) (g .D·SlotDevice .trace (c .args .device .now)) (c .args .job .now) in
     let before = seen (g .D·SlotDevice .slots (c .loop-device .device)) (g .D·SlotDevice .trace (c .loop-device .device)) (c .loop-device .job) in
-    complete-done fixed (g .Kind·Kind·met .lawful) start before (c .happens .last .self) (c .args .named) _ (c .in-Continue-allows .ensures tt) (c .loop-device .inv .1 (c .args .named)) (omega arith) (c .happens .ensures) refl
+    record { takes = complete-done fixed (g .Kind·Kind·met .lawful) start before (c .happens .last .self) (c .args .named) _ (c .in-Continue-allows .ensures tt) (c .loop-device .inv .2 (c .args .named)) (omega arith) (c .happens .ensures) refl; same = c .loop-device .inv .1 }

@@ -9,6 +9,7 @@ use Rattle.board.proofs.writing.complete_add.Given as given
 abbrev pub Inv-loop-device : given.InvT-loop-device
 Inv-loop-device g l =
     (l .job .busy ≡ true)
+    × (g .D·SlotDevice .lenders (l .device) ≡ g .D·SlotDevice .lenders (l .entry .device))
     × ((named : Named) → On-way (fixed-by (g .Kind·Kind .meaning) (g .D·SlotDevice .traced) (l .number)) named
     (seen (g .D·SlotDevice .slots (l .entry .device)) (g .D·SlotDevice .trace (l .entry .device)) (l .entry .job))
     (seen (g .D·SlotDevice .slots (l .device)) (g .D·SlotDevice .trace (l .device)) (l .job)))

@@ -14,8 +14,11 @@ returns-in-Break-allows g c =
     let slots = g .D·SlotDevice .slots (c .args .device .now) in
     let trace = g .D·SlotDevice .trace (c .args .device .now) in
     let job = c .args .job .now in
-    subst (λ (r : Result ℕ Refusal). Takes fixed (step (ticket-of (c .args .named))) (counting r) (seen slots trace job) (seen slots trace job)) (sym (at-exit (c .from-residual .result) _ (c .from-residual .ensures .1)))
-    (step-refused fixed (g .Kind·Kind·met .lawful) (seen slots trace job) (c .args .named) _ (c .in-Break-allows .ensures tt))
+    record {
+      takes = subst (λ (r : Result ℕ Refusal). Takes fixed (step (ticket-of (c .args .named))) (counting r) (seen slots trace job) (seen slots trace job)) (sym (at-exit (c .from-residual .result) _ (c .from-residual .ensures .1)))
+          (step-refused fixed (g .Kind·Kind·met .lawful) (seen slots trace job) (c .args .named) _ (c .in-Break-allows .ensures tt));
+      same = refl;
+    }
 
 pub returns : need.returns
 returns g c =
@@ -23,5 +26,8 @@ returns g c =
     let slots = g .D·SlotDevice .slots (c .args .device .now) in
     let trace = g .D·SlotDevice .trace (c .args .device .now) in
     let job = c .args .job .now in
-    step-done fixed (g .Kind·Kind·met .lawful) (seen slots trace job) _ (c .args .named) _ (c .in-Continue-allows .ensures tt)
-    (record { slots = c .write-next .ensures .slots; trace = c .write-next .ensures .trace; job = c .write-next .ensures .job }) (c .left .ensures)
+    record {
+      takes = step-done fixed (g .Kind·Kind·met .lawful) (seen slots trace job) _ (c .args .named) _ (c .in-Continue-allows .ensures tt)
+          (record { slots = c .write-next .ensures .slots; trace = c .write-next .ensures .trace; job = c .write-next .ensures .job }) (c .left .ensures);
+      same = c .write-next .ensures .same;
+    }

@@ -15,8 +15,11 @@ returns-in-Break-allows g c =
     let slots = g .D·SlotDevice .slots (c .args .device .now) in
     let trace = g .D·SlotDevice .trace (c .args .device .now) in
     let job = c .args .job .now in
-    subst (λ (r : Result ℕ Refusal). Takes fixed (withdraw (ticket-of (c .args .named))) (counting r) (seen slots trace job) (seen slots trace job)) (sym (at-exit (c .from-residual .result) _ (c .from-residual .ensures .1)))
-    (withdraw-refused fixed (g .Kind·Kind·met .lawful) (seen slots trace job) (c .args .named) _ (c .in-Break-allows .ensures tt))
+    record {
+      takes = subst (λ (r : Result ℕ Refusal). Takes fixed (withdraw (ticket-of (c .args .named))) (counting r) (seen slots trace job) (seen slots trace job)) (sym (at-exit (c .from-residual .result) _ (c .from-residual .ensures .1)))
+          (withdraw-refused fixed (g .Kind·Kind·met .lawful) (seen slots trace job) (c .args .named) _ (c .in-Break-allows .ensures tt));
+      same = refl;
+    }
 
 pub returns : need.returns
 returns g c =
@@ -24,4 +27,4 @@ returns g c =
     let slots = g .D·SlotDevice .slots (c .args .device .now) in
     let trace = g .D·SlotDevice .trace (c .args .device .now) in
     let job = c .args .job .now in
-    withdraw-done fixed (g .Kind·Kind·met .lawful) (seen slots trace job) _ _ _ (c .args .named) _ (c .in-Continue-allows .ensures tt) (c .in-force-told .ensures) (c .erase-half-way .ensures .slots) (c .erase-half-way .ensures .trace) (c .happens .ensures)
+    record { takes = withdraw-done fixed (g .Kind·Kind·met .lawful) (seen slots trace job) _ _ _ (c .args .named) _ (c .in-Continue-allows .ensures tt) (c .in-force-told .ensures) (c .erase-half-way .ensures .slots) (c .erase-half-way .ensures .trace) (c .happens .ensures); same = c .erase-half-way .ensures .same }

@@ -9,4 +9,4 @@ use Rattle.board.proofs.board.Board.change.Needs as need
 pub returns : need.returns
 returns g c =
     let fixed = fixed-by (g .Kind·Kind .meaning) (g .D·SlotDevice .traced) (c .args .self .now .number) in
-    record { law = lawfully fixed (g .Kind·Kind·met .lawful) (change-action (c .args .rule) (c .args .action)) _ _ _ tt (c .change-rule .ensures); same = refl }
+    record { law = lawfully fixed (g .Kind·Kind·met .lawful) (change-action (c .args .rule) (c .args .action)) _ _ _ tt (c .change-rule .ensures .takes); same = refl }

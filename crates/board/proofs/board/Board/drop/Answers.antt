@@ -9,4 +9,4 @@ use Rattle.board.proofs.board.Board.drop.Needs as need
 pub returns : need.returns
 returns g c =
     let fixed = fixed-by (g .Kind·Kind .meaning) (g .D·SlotDevice .traced) (c .args .self .now .number) in
-    record { law = lawfully fixed (g .Kind·Kind·met .lawful) (drop-rule (c .args .rule)) _ _ _ tt (c .drop-rule .ensures); same = refl }
+    record { law = lawfully fixed (g .Kind·Kind·met .lawful) (drop-rule (c .args .rule)) _ _ _ tt (c .drop-rule .ensures .takes); same = refl }

@@ -10,6 +10,6 @@ pub returns : need.returns
 returns g c =
     let fixed = fixed-by (g .Kind·Kind .meaning) (g .D·SlotDevice .traced) (c .args .self .now .number) in
     record {
-      law = lawfully fixed (g .Kind·Kind·met .lawful) (step (ticket-of (c .args .ticket .now .named))) _ _ _ tt (rw (← (c .named .ensures)) (c .step-add .ensures));
+      law = lawfully fixed (g .Kind·Kind·met .lawful) (step (ticket-of (c .args .ticket .now .named))) _ _ _ tt (rw (← (c .named .ensures)) (c .step-add .ensures .takes));
       same = refl;
     }

@@ -1,4 +1,6 @@
 // The board: rules are added, dropped, changed and looked up on a slot device while guests talk.
+#![tactic(auto)]
+
 mod adding;
 mod altering;
 mod board;

@@ -1,4 +1,6 @@
 // The boards for C: the caller lends all memory, and no function keeps a pointer.
+#![tactic(auto)]
+
 mod calls;
 mod forms;
 mod running;

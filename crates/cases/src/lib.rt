@@ -1,4 +1,6 @@
 // The worked cases, as one list that is proved. The tests put the same questions to the code.
+#![tactic(auto)]
+
 ghost use Rattle.std.specs.Prelude.{◌≡◌, length};
 ghost use Rattle.cases.specs.Cases.{WorkedCases, worked_cases};
 ghost use Rattle.cases.specs.Failures.{Failures};

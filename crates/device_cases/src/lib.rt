@@ -1,4 +1,6 @@
 // What a lender knows of its memory after code that knows a device only by its trait, and tests of the layouts.
+#![tactic(auto)]
+
 ghost use Rattle.std.specs.Prelude.{◌≡◌, length};
 ghost use Rattle.rules.specs.Slots.{writing, answer, after};
 ghost use Rattle.record_bank.specs.Records.{bank_slots, record_changed};

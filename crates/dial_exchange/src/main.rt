@@ -1,4 +1,6 @@
 // Runs an order file: reads it from the standard input and prints the lines that tell the board's answers.
+#![tactic(auto)]
+
 mod input;
 
 use dial_run::printed;

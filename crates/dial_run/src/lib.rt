@@ -1,4 +1,6 @@
 // An order file, run on a dial board over records.
+#![tactic(auto)]
+
 ghost use Rattle.std.specs.Prelude.{◌≡◌, IfOk, string_bytes};
 ghost use Rattle.record_bank.specs.Records.{bank_slots, record_changed};
 ghost use Rattle.order_run.specs.Running.{Ran};

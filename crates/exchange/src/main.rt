@@ -1,4 +1,6 @@
 // Checks an order file: reads it from the standard input and prints each order, and then how the file ended.
+#![tactic(auto)]
+
 mod input;
 
 use input::read_input;

@@ -1,4 +1,6 @@
 // The open add of a board. It knows nothing of devices.
+#![tactic(auto)]
+
 mod job;
 mod named;
 

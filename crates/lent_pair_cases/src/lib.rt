@@ -1,4 +1,6 @@
 // What the lender of two devices' memory knows of it, once a pair over both is let go.
+#![tactic(auto)]
+
 ghost use Rattle.std.specs.Prelude.{◌≡◌, ◌++◌, length};
 ghost use Rattle.rules.specs.Slots.{writing, erasing, answer, after};
 ghost use Rattle.record_bank.specs.Records.{bank_slots, record_changed};

@@ -1,4 +1,6 @@
 // Order files, read along the caller's bytes without a copy.
+#![tactic(auto)]
+
 mod ending;
 mod front;
 mod listing;

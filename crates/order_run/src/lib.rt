@@ -1,4 +1,6 @@
 // An order file, run on a board.
+#![tactic(auto)]
+
 mod caller;
 mod calling;
 mod keeping;

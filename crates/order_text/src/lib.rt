@@ -1,4 +1,6 @@
 // An order file as lines that people read.
+#![tactic(auto)]
+
 mod lines;
 mod signs;
 

@@ -1,4 +1,6 @@
 // Orders as they lie in the bytes of an order file.
+#![tactic(auto)]
+
 mod add_order;
 mod change_order;
 mod drop_order;

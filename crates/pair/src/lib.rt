@@ -1,4 +1,6 @@
 // A pair of slot devices of one kind, which is a slot device itself.
+#![tactic(auto)]
+
 mod devices;
 mod half;
 

@@ -1,4 +1,6 @@
 // Where a new rule may go: its span, the reach of each slot, and the chain of slots that makes room for it.
+#![tactic(auto)]
+
 mod chain;
 mod clash;
 mod jumping;

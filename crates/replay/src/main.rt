@@ -1,4 +1,6 @@
 // Replays the corpus: order files, each with the lines that the second implementation wrote for it.
+#![tactic(auto)]
+
 mod replaying;
 mod telling;
 

@@ -1,4 +1,6 @@
 // The words that every part of the exchange shares.
+#![tactic(auto)]
+
 mod device;
 mod event;
 mod kind;

@@ -1,4 +1,6 @@
 // The theory of shifting: what moving rules between slots keeps, whatever the kind of rule and the device.
+#![tactic(auto)]
+
 ghost use Rattle.shifting.specs.Law.{JumpRule, LawOfRuns};
 
 // The jump rule gives a shortest downward chain.

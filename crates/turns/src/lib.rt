@@ -1,4 +1,6 @@
 // The seven calls of a board, each as one turn of the machine over any slot device. Tickets are here by what they name.
+#![tactic(auto)]
+
 mod adding;
 mod altering;
 mod events;

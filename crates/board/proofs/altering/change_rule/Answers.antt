@@ -9,15 +9,15 @@ use Rattle.board.proofs.Turned.{at_exit}
 use Rattle.board.proofs.Drops.{drop_unknown, change_unknown, drop_done, change_done, look_up_misdialled, look_up_found}
 use Rattle.board.proofs.altering.change_rule.Goals as goal
 
-pub returns-in-err-slot : goal.returns-in-err-slot
-returns-in-err-slot g c =
+pub returns-in_err-slot : goal.returns-in_err-slot
+returns-in_err-slot g c =
     let fixed = fixed_by g.Kind.Kind.meaning g.D.SlotDevice.traced c.args.number in
     let slots = g.D.SlotDevice.slots c.args.device.now in
     let trace = g.D.SlotDevice.trace c.args.device.now in
     let job = c.args.job.now in
     record {
-      takes = subst (λ (r : Result (Unit {0}) Refusal). Takes fixed (change_action c.args.rule c.args.action) (doing r) (seen slots trace job) (seen slots trace job)) (sym (at_exit c.from-residual-in-err-slot.result _ c.from-residual-in-err-slot.ensures.1))
-          (change_unknown fixed slots trace job c.in-ok-allows.ensures c.args.rule _ c.in-err-slot.ensures c.args.action);
+      takes = subst (λ (r : Result (Unit {0}) Refusal). Takes fixed (change_action c.args.rule c.args.action) (doing r) (seen slots trace job) (seen slots trace job)) (sym (at_exit c.from_residual-in_err-slot.result _ c.from_residual-in_err-slot.ensures.1))
+          (change_unknown fixed slots trace job c.in_ok-allows.ensures c.args.rule _ c.in_err-slot.ensures c.args.action);
       same = refl;
     }
 
@@ -27,12 +27,12 @@ returns g c =
     let slots = g.D.SlotDevice.slots c.args.device.now in
     let trace = g.D.SlotDevice.trace c.args.device.now in
     let job = c.args.job.now in
-    let slot = c.in-ok-slot.slot in
-    let rule_is : c.with_action.result ≡ with_action c.args.action (held (at slots slot)) = c.with_action.ensures ∙ ap (with_action c.args.action) c.held-at-held.ensures in
+    let slot = c.in_ok-slot.slot in
+    let rule_is : c.with_action.result ≡ with_action c.args.action (held (at slots slot)) = c.with_action.ensures ∙ ap (with_action c.args.action) c.held_at-held.ensures in
     record {
-      takes = change_done fixed slots trace job c.in-ok-allows.ensures c.args.rule slot _ _ _ c.in-ok-slot.ensures c.args.action
-          (c.write-slot.ensures.answer ∙ ap (λ (rule : Rule). answer (writing (length slots) slot rule)) rule_is)
-          (c.write-slot.ensures.slots ∙ ap (λ (rule : Rule). after carried_out slots (writing (length slots) slot rule)) rule_is)
-          (c.write-slot.ensures.trace ∙ ap (λ (rule : Rule). after g.D.SlotDevice.traced trace (writing (length slots) slot rule)) rule_is);
-      same = c.write-slot.ensures.same;
+      takes = change_done fixed slots trace job c.in_ok-allows.ensures c.args.rule slot _ _ _ c.in_ok-slot.ensures c.args.action
+          (c.write_slot.ensures.answer ∙ ap (λ (rule : Rule). answer (writing (length slots) slot rule)) rule_is)
+          (c.write_slot.ensures.slots ∙ ap (λ (rule : Rule). after carried_out slots (writing (length slots) slot rule)) rule_is)
+          (c.write_slot.ensures.trace ∙ ap (λ (rule : Rule). after g.D.SlotDevice.traced trace (writing (length slots) slot rule)) rule_is);
+      same = c.write_slot.ensures.same;
     }

@@ -15,16 +15,16 @@ returns g c =
     let slots = g.D.SlotDevice.slots c.args.device.now in
     let trace = g.D.SlotDevice.trace c.args.device.now in
     let job = c.args.job.now in
-    record { takes = drop_done fixed slots trace job c.in-ok-allows.ensures c.args.rule c.in-ok-slot.slot _ _ _ c.in-ok-slot.ensures c.erase-slot.ensures.answer c.erase-slot.ensures.slots c.erase-slot.ensures.trace; same = c.erase-slot.ensures.same }
+    record { takes = drop_done fixed slots trace job c.in_ok-allows.ensures c.args.rule c.in_ok-slot.slot _ _ _ c.in_ok-slot.ensures c.erase_slot.ensures.answer c.erase_slot.ensures.slots c.erase_slot.ensures.trace; same = c.erase_slot.ensures.same }
 
-pub returns-in-err-slot : goal.returns-in-err-slot
-returns-in-err-slot g c =
+pub returns-in_err-slot : goal.returns-in_err-slot
+returns-in_err-slot g c =
     let fixed = fixed_by g.Kind.Kind.meaning g.D.SlotDevice.traced c.args.number in
     let slots = g.D.SlotDevice.slots c.args.device.now in
     let trace = g.D.SlotDevice.trace c.args.device.now in
     let job = c.args.job.now in
     record {
-      takes = subst (λ (r : Result (Unit {0}) Refusal). Takes fixed (drop_rule c.args.rule) (doing r) (seen slots trace job) (seen slots trace job)) (sym (at_exit c.from-residual-in-err-slot.result _ c.from-residual-in-err-slot.ensures.1))
-          (drop_unknown fixed slots trace job c.in-ok-allows.ensures c.args.rule _ c.in-err-slot.ensures);
+      takes = subst (λ (r : Result (Unit {0}) Refusal). Takes fixed (drop_rule c.args.rule) (doing r) (seen slots trace job) (seen slots trace job)) (sym (at_exit c.from_residual-in_err-slot.result _ c.from_residual-in_err-slot.ensures.1))
+          (drop_unknown fixed slots trace job c.in_ok-allows.ensures c.args.rule _ c.in_err-slot.ensures);
       same = refl;
     }

@@ -1,4 +1,4 @@
 use Rattle.kinds.proofs.dial.+only_ends.Given as goal
 
-abbrev pub decreases-only-ends : goal.decreases-only-ends
-decreases-only-ends l = l.left
+abbrev pub decreases-only_ends : goal.decreases-only_ends
+decreases-only_ends l = l.left

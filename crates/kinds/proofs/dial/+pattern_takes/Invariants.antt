@@ -1,4 +1,4 @@
 use Rattle.kinds.proofs.dial.+pattern_takes.Given as goal
 
-abbrev pub decreases-pattern-takes : goal.decreases-pattern-takes
-decreases-pattern-takes l = l.left
+abbrev pub decreases-pattern_takes : goal.decreases-pattern_takes
+decreases-pattern_takes l = l.left

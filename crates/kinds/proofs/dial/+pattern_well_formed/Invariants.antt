@@ -1,4 +1,4 @@
 use Rattle.kinds.proofs.dial.+pattern_well_formed.Given as goal
 
-abbrev pub decreases-pattern-well-formed : goal.decreases-pattern-well-formed
-decreases-pattern-well-formed l = l.left
+abbrev pub decreases-pattern_well_formed : goal.decreases-pattern_well_formed
+decreases-pattern_well_formed l = l.left

@@ -1,4 +1,4 @@
 use Rattle.kinds.proofs.dial.+patterns_meet.Given as goal
 
-abbrev pub decreases-patterns-meet : goal.decreases-patterns-meet
-decreases-patterns-meet l = l.left
+abbrev pub decreases-patterns_meet : goal.decreases-patterns_meet
+decreases-patterns_meet l = l.left

@@ -26,11 +26,11 @@ loop-outcome-preserved c =
     let entries = map entry_of (vec_items c.loop-outcome.orders) in
     let left = drop offset c.loop-outcome.reader.input.now in
     let told = subst (λ outcome. Gives (front left) offset left (Some outcome)) c.in-Ok.is c.in-Some.ensures.answer in
-    let moved : c.next-order.new.self.offset ≡ offset + length (bytes_of order) = c.in-Some.ensures.offset ∙ ap (λ outcome. offset_after offset (Some outcome)) c.in-Ok.is in
+    let moved : c.next_order.new.self.offset ≡ offset + length (bytes_of order) = c.in-Some.ensures.offset ∙ ap (λ outcome. offset_after offset (Some outcome)) c.in-Ok.is in
     let given = subst (λ bytes. Gives (front (drop offset bytes)) offset (drop offset bytes) (Some (Ok order))) c.loop-outcome.invariant.0 told in
-    let pushed : map entry_of (vec_items c.push.new.self) ≡ entries ++ entry_of order ∷ [] = ap (map entry_of) (chosen _ _ _ _ c.push.ensures.items (ap is_ok c.in-ok-push.was)) ∙ map_push entry_of (vec_items c.loop-outcome.orders) order in
+    let pushed : map entry_of (vec_items c.push.new.self) ≡ entries ++ entry_of order ∷ [] = ap (map entry_of) (chosen _ _ _ _ c.push.ensures.items (ap is_ok c.in_ok-push.was)) ∙ map_push entry_of (vec_items c.loop-outcome.orders) order in
     let more = one_more input entries offset (entry_of order) (length (bytes_of order)) c.loop-outcome.invariant.1 given.0 given.1 in (
-      ap (λ reference. reference.now) c.next-order.ensures.input ∙ c.loop-outcome.invariant.0,
+      ap (λ reference. reference.now) c.next_order.ensures.input ∙ c.loop-outcome.invariant.0,
       subst (λ place. Sofar input (map entry_of (vec_items c.push.new.self)) place) (sym moved)
           (subst (λ list. Sofar input list (offset + length (bytes_of order))) (sym pushed) more),
     )
@@ -40,10 +40,10 @@ returns c =
     let input = c.args.input.now in
     let offset = c.loop-outcome.reader.offset in
     let left = drop offset c.loop-outcome.reader.input.now in
-    let after = c.next-order.new.self.offset in
-    let ending = c.match-next-order.ending in
+    let after = c.next_order.new.self.offset in
+    let ending = c.match-next_order.ending in
     let Stopped : Type 0 = (front left ≡ front_of ending) × (after ≡ offset) in
-    let stopped : Stopped = elim c.match-next-order.branch [
+    let stopped : Stopped = elim c.match-next_order.branch [
       | in-Some+in-Err w ↦ (subst (λ outcome. Gives (front left) offset left (Some outcome)) w.in-Err.is w.in-Some.ensures.answer ∙ ap front_of (sym w.ending-is), w.in-Some.ensures.offset ∙ ap (λ outcome. offset_after offset (Some outcome)) w.in-Err.is)
       | in-None w ↦ (w.in-None.ensures.answer ∙ ap front_of (sym w.ending-is), w.in-None.ensures.offset)
     ] in

@@ -14,11 +14,11 @@ loop-left-init c = (omega arith, ap (λ text. text ++ signs_of (places 16 c.args
 pub loop-left-preserved : goal.loop-left-preserved
 loop-left-preserved c =
     let text = string_bytes c.loop-left.text in
-    let code = c.first-place-code.result in
+    let code = c.first_place-code.result in
     let others = places (c.loop-left.left - 1) c.args.word in
-    let pushed : string_bytes c.push.new.self ≡ text ++ sign code ∷ [] = c.in-ok-push.ensures.bytes ∙ ap (λ l. text ++ l) (c.push.ensures.ascii c.sign.ensures.ascii ∙ ap (λ s. s ∷ []) c.sign.ensures.value) in (
+    let pushed : string_bytes c.push.new.self ≡ text ++ sign code ∷ [] = c.in_ok-push.ensures.bytes ∙ ap (λ l. text ++ l) (c.push.ensures.ascii c.sign.ensures.ascii ∙ ap (λ s. s ∷ []) c.sign.ensures.value) in (
       omega arith,
-      ap (λ l. l ++ signs_of others) pushed ∙ one_sign text code others (ne_eqb code 15 c.if-code-eq-END.false) ∙ ap (λ l. text ++ signs_of l) (sym c.first-place-code.ensures.place) ∙ c.loop-left.invariant.1,
+      ap (λ l. l ++ signs_of others) pushed ∙ one_sign text code others (ne_eqb code 15 c.if-code-eq-END.false) ∙ ap (λ l. text ++ signs_of l) (sym c.first_place-code.ensures.place) ∙ c.loop-left.invariant.1,
     )
 
 pub returns : goal.returns
@@ -28,6 +28,6 @@ returns c =
     let word = c.args.word in
     let done : text ++ signs_of (places left word) ≡ text = elim c.loop-left-test.branch [
       | else-loop-left-test w ↦ (ap (λ l. text ++ signs_of l) (places_none left word (omega (arith, w.loop-left-test.false))) ∙ append-nil text)
-      | then-loop-left-test+then-code-eq-END w ↦ (ap (λ l. text ++ signs_of l) w.first-place-code.ensures.place ∙ no_sign text w.first-place-code.result (places (left - 1) word) (eq-eqb w.first-place-code.result 15 w.if-code-eq-END.true))
+      | then-loop-left-test+then-code-eq-END w ↦ (ap (λ l. text ++ signs_of l) w.first_place-code.ensures.place ∙ no_sign text w.first_place-code.result (places (left - 1) word) (eq-eqb w.first_place-code.result 15 w.if-code-eq-END.true))
     ] in
     sym done ∙ c.loop-left.invariant.1

@@ -14,7 +14,7 @@ loop-left-preserved c =
     let text = string_bytes c.loop-left.text in
     let code = c.first_place.result in
     let others = places (c.loop-left.left - 1) c.args.word in
-    let pushed : string_bytes c.push.new.self ≡ text ++ digit code ∷ [] = c.in-ok-push.ensures.bytes ∙ ap (λ l. text ++ l) (c.push.ensures.ascii c.digit.ensures.ascii ∙ ap (λ s. s ∷ []) c.digit.ensures.value) in (
+    let pushed : string_bytes c.push.new.self ≡ text ++ digit code ∷ [] = c.in_ok-push.ensures.bytes ∙ ap (λ l. text ++ l) (c.push.ensures.ascii c.digit.ensures.ascii ∙ ap (λ s. s ∷ []) c.digit.ensures.value) in (
       omega arith,
       ap (λ l. l ++ digits_of others) pushed ∙ one_digit text code others ∙ ap (λ l. text ++ digits_of l) (sym c.first_place.ensures.place) ∙ c.loop-left.invariant.1,
     )

@@ -9,8 +9,8 @@ use Rattle.orders.proofs.number.big_endian.Goals as goal
 room : (i : ℕ) → i < 8 → 256 ^ i ≤ 2 ^ 56
 room i h = let few : i ≤ 7 = omega arith in pow-le-pow_right (omega arith) few
 
-pub one-byte-more-value-requires : goal.one-byte-more-value-requires
-one-byte-more-value-requires c = omega (arith, room c.loop-byte.byte-index (omega arith))
+pub one_byte_more-value-requires : goal.one_byte_more-value-requires
+one_byte_more-value-requires c = omega (arith, room c.loop-byte.byte-index (omega arith))
 
 pub loop-byte-preserved : goal.loop-byte-preserved
 loop-byte-preserved c =

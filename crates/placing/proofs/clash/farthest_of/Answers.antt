@@ -8,15 +8,15 @@ pub loop-slot-init : goal.loop-slot-init
 loop-slot-init g c =
     let reached = reach g.Kind.Kind.meaning (g.D.SlotDevice.slots c.args.device.now) in
     let none : c.args.from - c.args.from ≡ 0 = omega arith in
-    (omega arith, omega arith, sym (ap (farthest reached c.args.from) none), c.reach-of-best-reach.ensures)
+    (omega arith, omega arith, sym (ap (farthest reached c.args.from) none), c.reach_of-best_reach.ensures)
 
-pub loop-slot-preserved-then-best-reach-slot-reach : goal.loop-slot-preserved-then-best-reach-slot-reach
-loop-slot-preserved-then-best-reach-slot-reach g c =
+pub loop-slot-preserved-then-best_reach-slot_reach : goal.loop-slot-preserved-then-best_reach-slot_reach
+loop-slot-preserved-then-best_reach-slot_reach g c =
     let reached = reach g.Kind.Kind.meaning (g.D.SlotDevice.slots c.args.device.now) in
     let slot = c.loop-slot.slot in
     let before = c.loop-slot.invariant.0 in
     let less : reached c.loop-slot.best < reached (slot + 1) = omega (arith, c.loop-slot.invariant.3) in
-    (omega arith, omega arith, farther reached c.args.from slot (slot + 1) c.loop-slot.best (slot - c.args.from) (omega arith) refl c.loop-slot.invariant.2 less, c.reach-of-slot-reach.ensures)
+    (omega arith, omega arith, farther reached c.args.from slot (slot + 1) c.loop-slot.best (slot - c.args.from) (omega arith) refl c.loop-slot.invariant.2 less, c.reach_of-slot_reach.ensures)
 
 pub loop-slot-preserved : goal.loop-slot-preserved
 loop-slot-preserved g c =

@@ -9,7 +9,7 @@ invariant-loop-slot g l =
     (l.from ≤ l.slot)
     × (l.slot - l.from ≤ l.to - l.from)
     × (l.best ≡ farthest reached l.from (l.slot - l.from))
-    × (l.«best-reach» ≡ reached l.best)
+    × (l.«best_reach» ≡ reached l.best)
 
 abbrev pub decreases-loop-slot : goal.decreases-loop-slot
 decreases-loop-slot g l = l.to - l.slot

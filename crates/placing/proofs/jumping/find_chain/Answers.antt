@@ -7,23 +7,23 @@ use Rattle.placing.specs.Placing.{Names}
 use Rattle.placing.proofs.Placed.{never_placed, placed_crossed, placed_full, placed_well}
 use Rattle.placing.proofs.jumping.find_chain.Goals as goal
 
-pub returns-then-is-crossed : goal.returns-then-is-crossed
-returns-then-is-crossed g c =
+pub returns-then-is_crossed : goal.returns-then-is_crossed
+returns-then-is_crossed g c =
     let slots = g.D.SlotDevice.slots c.args.device.now in
     let span = c.span-from in
-    let untied = sym c.is-tied.ensures ∙ c.if-is-tied.false in
+    let untied = sym c.is_tied.ensures ∙ c.if-is_tied.false in
     record {
-      answer = placed_crossed g.Kind.Kind.meaning slots c.args.new untied _ _ span.ensures.low span.ensures.high (sym c.if-is-crossed.ensures);
+      answer = placed_crossed g.Kind.Kind.meaning slots c.args.new untied _ _ span.ensures.low span.ensures.high (sym c.if-is_crossed.ensures);
       chain = never_placed Crossed;
     }
 
-pub returns-then-is-full : goal.returns-then-is-full
-returns-then-is-full g c =
+pub returns-then-is_full : goal.returns-then-is_full
+returns-then-is_full g c =
     let slots = g.D.SlotDevice.slots c.args.device.now in
     let span = c.span-from in
-    let untied = sym c.is-tied.ensures ∙ c.if-is-tied.false in
+    let untied = sym c.is_tied.ensures ∙ c.if-is_tied.false in
     record {
-      answer = placed_full g.Kind.Kind.meaning slots c.args.new untied _ _ span.ensures.low span.ensures.high (sym c.if-is-crossed.ensures) (sym c.if-is-full.ensures);
+      answer = placed_full g.Kind.Kind.meaning slots c.args.new untied _ _ span.ensures.low span.ensures.high (sym c.if-is_crossed.ensures) (sym c.if-is_full.ensures);
       chain = never_placed NoSlot;
     }
 
@@ -31,18 +31,18 @@ pub returns : goal.returns
 returns g c =
     let slots = g.D.SlotDevice.slots c.args.device.now in
     let span = c.span-from in
-    let untied = sym c.is-tied.ensures ∙ c.if-is-tied.false in
+    let untied = sym c.is_tied.ensures ∙ c.if-is_tied.false in
     let jumped = λ (from to : ℕ). jump (is_empty slots) (reach g.Kind.Kind.meaning slots) (usable slots) from to in
     record {
-      answer = placed_well g.Kind.Kind.meaning slots c.args.new untied _ _ span.ensures.low span.ensures.high (sym c.if-is-crossed.ensures) (sym c.if-is-full.ensures);
+      answer = placed_well g.Kind.Kind.meaning slots c.args.new untied _ _ span.ensures.low span.ensures.high (sym c.if-is_crossed.ensures) (sym c.if-is_full.ensures);
       chain = λ _.
-          subst (λ (chain : List ℕ). Names c.jump-from.new.chain chain)
+          subst (λ (chain : List ℕ). Names c.jump_from.new.chain chain)
           (ap (λ (from : ℕ). jumped from span.result.1) span.ensures.low ∙ ap (jumped (low g.Kind.Kind.meaning slots c.args.new)) span.ensures.high)
-          c.jump-from.ensures;
+          c.jump_from.ensures;
     }
 
-pub jump-from-requires : goal.jump-from-requires
-jump-from-requires g c =
+pub jump_from-requires : goal.jump_from-requires
+jump_from-requires g c =
     let slots = g.D.SlotDevice.slots c.args.device.now in
     let bound = past_high (λ (i : ℕ). above g.Kind.Kind.meaning c.args.new (at slots i)) (usable slots) in
     (omega arith, omega arith)

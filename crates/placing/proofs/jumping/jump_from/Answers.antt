@@ -10,7 +10,7 @@ pub overflow-add-low : goal.overflow-add-low
 overflow-add-low g c =
     let reached = reach g.Kind.Kind.meaning (g.D.SlotDevice.slots c.args.device.now) in
     let bound = farthest_high reached c.loop-turns.low (c.loop-turns.high - c.loop-turns.low) in
-    omega (arith, c.farthest-of-taken.ensures, c.loop-turns.invariant.0, c.loop-turns.invariant.1)
+    omega (arith, c.farthest_of-taken.ensures, c.loop-turns.invariant.0, c.loop-turns.invariant.1)
 
 pub loop-turns-preserved : goal.loop-turns-preserved
 loop-turns-preserved g c =
@@ -19,14 +19,14 @@ loop-turns-preserved g c =
     let turns = c.loop-turns.turns in
     let low = c.loop-turns.low in
     let high = c.loop-turns.high in
-    let taken = c.farthest-of-taken.result in
+    let taken = c.farthest_of-taken.result in
     let bound = farthest_high reached low (high - low) in
-    let goes = jump_goes (is_empty slots) reached turns (turns - 1) low high c.first-passing-empty.result (omega arith) c.first-passing-empty.ensures taken (omega arith) c.farthest-of-taken.ensures in (
+    let goes = jump_goes (is_empty slots) reached turns (turns - 1) low high c.first_passing-empty.result (omega arith) c.first_passing-empty.ensures taken (omega arith) c.farthest_of-taken.ensures in (
       omega arith,
-      omega (arith, c.farthest-of-taken.ensures, c.loop-turns.invariant.0, c.loop-turns.invariant.1, c.loop-turns.invariant.2),
+      omega (arith, c.farthest_of-taken.ensures, c.loop-turns.invariant.0, c.loop-turns.invariant.1, c.loop-turns.invariant.2),
       omega (arith, c.loop-turns.invariant.2),
       longer _ _ _ _ taken c.push-in-loop-turns.ensures.slots c.push-in-loop-turns.ensures.length c.loop-turns.invariant.3,
-      rw c.reach-of-high.ensures (one_more _ _ taken _ _ _ goes c.push-in-loop-turns.ensures.slots c.loop-turns.invariant.4),
+      rw c.reach_of-high.ensures (one_more _ _ taken _ _ _ goes c.push-in-loop-turns.ensures.slots c.loop-turns.invariant.4),
     )
 
 pub returns-after-loop-turns : goal.returns-after-loop-turns
@@ -43,7 +43,7 @@ returns-then-empty-high g c =
     let slots = g.D.SlotDevice.slots c.args.device.now in
     let reached = reach g.Kind.Kind.meaning slots in
     let turns = c.loop-turns.turns in
-    let first = c.first-passing-empty.result in
-    let ends = jump_ends (is_empty slots) reached turns (turns - 1) c.loop-turns.low c.loop-turns.high first (omega arith) c.first-passing-empty.ensures (omega arith) in
+    let first = c.first_passing-empty.result in
+    let ends = jump_ends (is_empty slots) reached turns (turns - 1) c.loop-turns.low c.loop-turns.high first (omega arith) c.first_passing-empty.ensures (omega arith) in
     let are = last_one _ _ first _ _ ends c.push.ensures.slots c.loop-turns.invariant.4 in
     record { as_many = longer _ _ _ _ first c.push.ensures.slots c.push.ensures.length c.loop-turns.invariant.3 ∙ ap length are; are = are }

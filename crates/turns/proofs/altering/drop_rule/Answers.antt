@@ -17,10 +17,10 @@ returns g c =
     let stored = g.D.SlotDevice.stored in
     let memory = g.D.SlotDevice.memory c.args.device.now in
     let job = c.args.job.now in
-    record { takes = drop_done fixed stored slots trace memory job c.in-ok-allows.ensures c.args.rule c.in-ok-slot.slot _ _ _ _ c.in-ok-slot.ensures c.erase-slot.ensures.answer c.erase-slot.ensures.slots c.erase-slot.ensures.trace c.erase-slot.ensures.memory; same = c.erase-slot.ensures.same }
+    record { takes = drop_done fixed stored slots trace memory job c.in_ok-allows.ensures c.args.rule c.in_ok-slot.slot _ _ _ _ c.in_ok-slot.ensures c.erase_slot.ensures.answer c.erase_slot.ensures.slots c.erase_slot.ensures.trace c.erase_slot.ensures.memory; same = c.erase_slot.ensures.same }
 
-pub returns-in-err-slot : goal.returns-in-err-slot
-returns-in-err-slot g c =
+pub returns-in_err-slot : goal.returns-in_err-slot
+returns-in_err-slot g c =
     let fixed = fixed_by g.Kind.Kind.meaning g.D.SlotDevice.traced c.args.number in
     let slots = g.D.SlotDevice.slots c.args.device.now in
     let trace = g.D.SlotDevice.trace c.args.device.now in
@@ -28,7 +28,7 @@ returns-in-err-slot g c =
     let memory = g.D.SlotDevice.memory c.args.device.now in
     let job = c.args.job.now in
     record {
-      takes = subst (λ (r : Result (Unit {0}) Refusal). Takes fixed stored (drop_rule c.args.rule) (doing r) (seen slots trace memory job) (seen slots trace memory job)) (sym (at_exit c.from-residual-in-err-slot.result _ c.from-residual-in-err-slot.ensures.1))
-          (drop_unknown fixed stored slots trace memory job c.in-ok-allows.ensures c.args.rule _ c.in-err-slot.ensures);
+      takes = subst (λ (r : Result (Unit {0}) Refusal). Takes fixed stored (drop_rule c.args.rule) (doing r) (seen slots trace memory job) (seen slots trace memory job)) (sym (at_exit c.from_residual-in_err-slot.result _ c.from_residual-in_err-slot.ensures.1))
+          (drop_unknown fixed stored slots trace memory job c.in_ok-allows.ensures c.args.rule _ c.in_err-slot.ensures);
       same = refl;
     }

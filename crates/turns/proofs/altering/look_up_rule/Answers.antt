@@ -16,4 +16,4 @@ returns g c =
     let trace = g.D.SlotDevice.trace c.args.device.now in
     let stored = g.D.SlotDevice.stored in
     let memory = g.D.SlotDevice.memory c.args.device.now in
-    look_up_found fixed stored slots trace memory c.args.job.now c.args.subject c.told-of.result (sym c.if-not-well-formed-subject.ensures) (c.told-of.ensures ∙ ap told c.matching.ensures)
+    look_up_found fixed stored slots trace memory c.args.job.now c.args.subject c.told_of.result (sym c.if-not-well_formed_subject.ensures) (c.told_of.ensures ∙ ap told c.matching.ensures)

@@ -6,4 +6,4 @@ pub returns : goal.returns
 returns g c =
     let a = g.D.SlotDevice.slots c.args.self.now.first.now in
     let b = g.E.SlotDevice.slots c.args.self.now.second.now in
-    record { answer = c.read-half.ensures ∙ half_read a b c.args.slot c.half-at.result (in_half a b c.args.slot _ c.half-at.ensures) }
+    record { answer = c.read_half.ensures ∙ half_read a b c.args.slot c.half_at.result (in_half a b c.args.slot _ c.half_at.ensures) }

@@ -11,11 +11,11 @@ returns g c =
     let x = g.D.SlotDevice.memory c.args.self.now.first.now in
     let y = g.E.SlotDevice.memory c.args.self.now.second.now in
     let routed = writing_routed a b c.args.rule in
-    let half = in_half a b c.args.slot _ c.half-at-half.ensures in
-    let slots-is = half_slots a b _ routed c.args.slot c.half-at-half.result half in
-    let memory_is = half_memory a b _ routed c.args.slot g.D.SlotDevice.stored g.E.SlotDevice.stored x y c.half-at-half.result half in
+    let half = in_half a b c.args.slot _ c.half_at-half.ensures in
+    let slots-is = half_slots a b _ routed c.args.slot c.half_at-half.result half in
+    let memory_is = half_memory a b _ routed c.args.slot g.D.SlotDevice.stored g.E.SlotDevice.stored x y c.half_at-half.result half in
     record {
-      answer = c.write-half.ensures.answer ∙ half_answer a b _ routed c.args.slot c.half-at-half.result half;
+      answer = c.write_half.ensures.answer ∙ half_answer a b _ routed c.args.slot c.half_at-half.result half;
       slots = cc;
       trace = untraced_after _;
       memory = cc;

@@ -15,7 +15,7 @@ returns-in-Some c =
     let self = c.args.self.now in
     let order = entry_of c.args.order.now in
     let hand = self.ticket in
-    let hand' = c.call-for.new.hand in
+    let hand' = c.call_for.new.hand in
     let text = string_bytes self.text in
     let input = self.reader.input.now in
     let offset = self.reader.offset in
@@ -23,8 +23,8 @@ returns-in-Some c =
     let head = c.of-head.result in
     record {
       asks = λ before on.
-          let is = c.call-for.ensures.call ∙ ap asked c.in-Some.is in
-          let left = c.call-for.ensures.hand ∙ ap (λ r. in_hand r hand) c.in-Some.is in
+          let is = c.call_for.ensures.call ∙ ap asked c.in-Some.is in
+          let left = c.call_for.ensures.hand ∙ ap (λ r. in_hand r hand) c.in-Some.is in
           let took = order_asks before input offset hand hand' text order call on.begins on.good is left in
           record {
             free = took.free;
@@ -47,7 +47,7 @@ returns-in-None c =
     let offset = self.reader.offset in
     let reply = c.no_ticket.result in
     let head = c.of-head.result in
-    let same : c.call-for.new.hand ≡ hand = c.in-None.ensures.hand in
+    let same : c.call_for.new.hand ≡ hand = c.in-None.ensures.hand in
     let written : line head.letter head.place reply.refusal reply.value ≡ answer_line order.letter order.place (refused Foreign) =
     line_told head.letter order.letter head.place order.place reply.refusal reply.value (refused Foreign) c.of-head.ensures.letter c.of-head.ensures.place c.no_ticket.ensures in
     record {

@@ -6,6 +6,6 @@ use Rattle.pair.proofs.devices.PairSlotDevice.first_match.Goals as goal
 pub returns : goal.returns
 returns g c = record {
   answer =
-      c.match-in-halves.ensures
+      c.match_in_halves.ensures
       ∙ match_halves (slot_matches g.row.D-Kind-Kind.meaning c.args.subject) (g.D.SlotDevice.slots c.args.self.now.first) (g.E.SlotDevice.slots c.args.self.now.second);
 }

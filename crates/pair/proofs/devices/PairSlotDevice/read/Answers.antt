@@ -8,6 +8,6 @@ returns g c =
     let b = g.E.SlotDevice.slots c.args.self.now.second in
     record {
       answer =
-          c.read-half.ensures
-          ∙ half_read a b c.count.result c.count-2.result c.args.slot c.half-of.result c.count.ensures.answer c.count-2.ensures.answer c.half-of.ensures;
+          c.read_half.ensures
+          ∙ half_read a b c.count.result c.count-2.result c.args.slot c.half_of.result c.count.ensures.answer c.count-2.ensures.answer c.half_of.ensures;
     }

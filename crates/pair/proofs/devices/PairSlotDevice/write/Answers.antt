@@ -14,11 +14,11 @@ returns g c =
     let m = c.count-2.result in
     let is-n = c.count.ensures.answer in
     let is_m = c.count-2.ensures.answer in
-    let slots-is = half_slots a b _ routed n m c.args.slot is-n is_m c.half-of-half.result c.half-of-half.ensures in
+    let slots-is = half_slots a b _ routed n m c.args.slot is-n is_m c.half_of-half.result c.half_of-half.ensures in
     let memory_is =
-    half_memory a b _ routed n m c.args.slot is-n is_m g.D.SlotDevice.stored g.E.SlotDevice.stored x y c.half-of-half.result c.half-of-half.ensures in
+    half_memory a b _ routed n m c.args.slot is-n is_m g.D.SlotDevice.stored g.E.SlotDevice.stored x y c.half_of-half.result c.half_of-half.ensures in
     record {
-      answer = c.write-half.ensures.answer ∙ half_answer a b _ routed n m c.args.slot is-n is_m c.half-of-half.result c.half-of-half.ensures;
+      answer = c.write_half.ensures.answer ∙ half_answer a b _ routed n m c.args.slot is-n is_m c.half_of-half.result c.half_of-half.ensures;
       slots = cc;
       trace = untraced_after _;
       memory = cc;

@@ -11,15 +11,15 @@ loop-slot-preserved c =
     let slots = bank_slots c.args.self.now.records.now in
     let below : c.loop-slot.slot < length slots = omega arith in
     let here = sym (c.slot_matches.ensures ∙ ap passes c.at.ensures) in
-    (c.loop-slot.invariant.0, passed_over_more passes slots c.loop-slot.slot None below (here ∙ c.if-slot-matches.false) c.loop-slot.invariant.1)
+    (c.loop-slot.invariant.0, passed_over_more passes slots c.loop-slot.slot None below (here ∙ c.if-slot_matches.false) c.loop-slot.invariant.1)
 
-pub returns-then-slot-matches : goal.returns-then-slot-matches
-returns-then-slot-matches c =
+pub returns-then-slot_matches : goal.returns-then-slot_matches
+returns-then-slot_matches c =
     let passes = slot_matches dial_meaning c.args.subject in
     let slots = bank_slots c.args.self.now.records.now in
     let below : c.loop-slot.slot < length slots = omega arith in
     let here = sym (c.slot_matches.ensures ∙ ap passes c.at.ensures) in
-    record { answer = sym (found_here passes slots c.loop-slot.slot None below (here ∙ c.if-slot-matches.true) c.loop-slot.invariant.1) }
+    record { answer = sym (found_here passes slots c.loop-slot.slot None below (here ∙ c.if-slot_matches.true) c.loop-slot.invariant.1) }
 
 pub returns : goal.returns
 returns c =

@@ -9,27 +9,27 @@ use Rattle.board.proofs.adding.open_add.Goals as goal
 
 pub returns-in_err-fits : goal.returns-in_err-fits
 returns-in_err-fits g c =
-    let fixed = fixed_by g.Kind.Kind.meaning g.D.SlotDevice.traced c.args.number in
+    let fixed = fixed_by g.D.Kind.Kind.meaning g.D.SlotDevice.traced c.args.number in
     let slots = g.D.SlotDevice.slots c.args.device.now in
     let trace = g.D.SlotDevice.trace c.args.device.now in
     let job = c.args.job.now in
     subst (λ (r : Result Named Refusal). Takes fixed (add c.args.new) (opening r) (seen slots trace job) (seen slots trace job)) (sym (at_exit c.from_residual-in_err-fits.result _ c.from_residual-in_err-fits.ensures.1))
-    (add_unfit fixed g.met.Kind.Kind.lawful slots trace job c.args.new c.in_ok-allows.ensures _ job refl c.in_err-fits.ensures)
+    (add_unfit fixed g.met.D.Kind.Kind.lawful slots trace job c.args.new c.in_ok-allows.ensures _ job refl c.in_err-fits.ensures)
 
 pub returns-in_err-find_chain : goal.returns-in_err-find_chain
 returns-in_err-find_chain g c =
-    let fixed = fixed_by g.Kind.Kind.meaning g.D.SlotDevice.traced c.args.number in
+    let fixed = fixed_by g.D.Kind.Kind.meaning g.D.SlotDevice.traced c.args.number in
     let slots = g.D.SlotDevice.slots c.args.device.now in
     let trace = g.D.SlotDevice.trace c.args.device.now in
     let job = c.args.job.now in
     subst (λ (r : Result Named Refusal). Takes fixed (add c.args.new) (opening r) (seen slots trace job) (seen slots trace (record { busy = job.busy; rule = job.rule; chain = c.find_chain.new.chain; made = job.made }))) (sym (at_exit c.from_residual-in_err-find_chain.result _ c.from_residual-in_err-find_chain.ensures.1))
-    (add_unplaced fixed g.met.Kind.Kind.lawful slots trace job c.args.new c.in_ok-allows.ensures c.in_ok-fits.ensures _ _ refl c.in_err-find_chain.ensures.answer)
+    (add_unplaced fixed g.met.D.Kind.Kind.lawful slots trace job c.args.new c.in_ok-allows.ensures c.in_ok-fits.ensures _ _ refl c.in_err-find_chain.ensures.answer)
 
 pub returns : goal.returns
 returns g c =
-    let fixed = fixed_by g.Kind.Kind.meaning g.D.SlotDevice.traced c.args.number in
+    let fixed = fixed_by g.D.Kind.Kind.meaning g.D.SlotDevice.traced c.args.number in
     let slots = g.D.SlotDevice.slots c.args.device.now in
     let trace = g.D.SlotDevice.trace c.args.device.now in
     let job = c.args.job.now in
-    add_opened fixed g.met.Kind.Kind.lawful slots trace job c.args.new c.in_ok-allows.ensures c.in_ok-fits.ensures
+    add_opened fixed g.met.D.Kind.Kind.lawful slots trace job c.args.new c.in_ok-allows.ensures c.in_ok-fits.ensures
     (record { busy = job.busy; rule = job.rule; chain = c.find_chain.new.chain; made = job.made }) c.happens.new.self _ refl c.happens.ensures (c.in_ok-find_chain.ensures.chain refl) refl c.in_ok-find_chain.ensures.answer

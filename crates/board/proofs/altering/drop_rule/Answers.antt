@@ -11,7 +11,7 @@ use Rattle.board.proofs.altering.drop_rule.Goals as goal
 
 pub returns : goal.returns
 returns g c =
-    let fixed = fixed_by g.Kind.Kind.meaning g.D.SlotDevice.traced c.args.number in
+    let fixed = fixed_by g.D.Kind.Kind.meaning g.D.SlotDevice.traced c.args.number in
     let slots = g.D.SlotDevice.slots c.args.device.now in
     let trace = g.D.SlotDevice.trace c.args.device.now in
     let job = c.args.job.now in
@@ -19,7 +19,7 @@ returns g c =
 
 pub returns-in_err-slot : goal.returns-in_err-slot
 returns-in_err-slot g c =
-    let fixed = fixed_by g.Kind.Kind.meaning g.D.SlotDevice.traced c.args.number in
+    let fixed = fixed_by g.D.Kind.Kind.meaning g.D.SlotDevice.traced c.args.number in
     let slots = g.D.SlotDevice.slots c.args.device.now in
     let trace = g.D.SlotDevice.trace c.args.device.now in
     let job = c.args.job.now in

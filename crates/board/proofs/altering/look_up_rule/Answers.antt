@@ -11,7 +11,7 @@ use Rattle.board.proofs.altering.look_up_rule.Goals as goal
 
 pub returns : goal.returns
 returns g c =
-    let fixed = fixed_by g.Kind.Kind.meaning g.D.SlotDevice.traced c.args.number in
+    let fixed = fixed_by g.D.Kind.Kind.meaning g.D.SlotDevice.traced c.args.number in
     let slots = g.D.SlotDevice.slots c.args.device.now in
     let trace = g.D.SlotDevice.trace c.args.device.now in
     look_up_found fixed slots trace c.args.job.now c.args.subject c.told_of.result (sym c.if-not-well_formed_subject.ensures) (c.told_of.ensures ∙ ap told c.matching.ensures)

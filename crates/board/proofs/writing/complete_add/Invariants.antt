@@ -8,7 +8,7 @@ abbrev pub invariant-loop-device : goal.invariant-loop-device
 invariant-loop-device g l =
     (l.job.busy ≡ true)
     × (g.D.SlotDevice.lenders l.device ≡ g.D.SlotDevice.lenders l.initial.device)
-    × ((named : Named) → OnWay (fixed_by g.Kind.Kind.meaning g.D.SlotDevice.traced l.number) named
+    × ((named : Named) → OnWay (fixed_by g.D.Kind.Kind.meaning g.D.SlotDevice.traced l.number) named
     (seen (g.D.SlotDevice.slots l.initial.device) (g.D.SlotDevice.trace l.initial.device) l.initial.job)
     (seen (g.D.SlotDevice.slots l.device) (g.D.SlotDevice.trace l.device) l.job))
 

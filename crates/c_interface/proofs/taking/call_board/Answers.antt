@@ -6,10 +6,10 @@ use Rattle.c_interface.proofs.taking.call_board.Goals as goal
 
 pub returns : goal.returns
 returns g c =
-    let fixed = fixed_by g.Kind.Kind.meaning g.D.SlotDevice.traced c.args.board in
+    let fixed = fixed_by g.D.Kind.Kind.meaning g.D.SlotDevice.traced c.args.board in
     let call = c.args.call in
     record {
       tells = c.take.ensures.tells;
-      law = obeys fixed g.D.SlotDevice.stored g.met.Kind.Kind.lawful (call_of call) c.take.result (shown g.D.SlotDevice c.args.device.now c.args.job.now) (shown g.D.SlotDevice c.take.new.device c.take.new.job) (sized_in call (omega arith, omega arith)) c.take.ensures.tells;
+      law = obeys fixed g.D.SlotDevice.stored g.met.D.Kind.Kind.lawful (call_of call) c.take.result (shown g.D.SlotDevice c.args.device.now c.args.job.now) (shown g.D.SlotDevice c.take.new.device c.take.new.job) (sized_in call (omega arith, omega arith)) c.take.ensures.tells;
       same = c.take.ensures.same;
     }

@@ -6,7 +6,7 @@ use Rattle.c_interface.proofs.taking.open_board.Goals as goal
 pub returns : goal.returns
 returns g c =
     record {
-      opens = opens (fixed_by g.Kind.Kind.meaning g.D.SlotDevice.traced) g.D.SlotDevice.stored (shown g.D.SlotDevice c.args.device.now c.args.job.now) _
+      opens = opens (fixed_by g.D.Kind.Kind.meaning g.D.SlotDevice.traced) g.D.SlotDevice.stored (shown g.D.SlotDevice c.args.device.now c.args.job.now) _
           (λ board. record { slots = c.clear.ensures.slots; trace = c.clear.ensures.trace; job = refl }) c.clear.ensures.memory;
       same = c.clear.ensures.same;
     }

@@ -6,13 +6,13 @@ use Rattle.placing.proofs.clash.farthest_of.Goals as goal
 
 pub loop-slot-init : goal.loop-slot-init
 loop-slot-init g c =
-    let reached = reach g.Kind.Kind.meaning (g.D.SlotDevice.slots c.args.device.now) in
+    let reached = reach g.D.Kind.Kind.meaning (g.D.SlotDevice.slots c.args.device.now) in
     let none : c.args.from - c.args.from ≡ 0 = omega arith in
     (omega arith, omega arith, sym (ap (farthest reached c.args.from) none), c.reach_of-best_reach.ensures)
 
 pub loop-slot-preserved-then-best_reach-slot_reach : goal.loop-slot-preserved-then-best_reach-slot_reach
 loop-slot-preserved-then-best_reach-slot_reach g c =
-    let reached = reach g.Kind.Kind.meaning (g.D.SlotDevice.slots c.args.device.now) in
+    let reached = reach g.D.Kind.Kind.meaning (g.D.SlotDevice.slots c.args.device.now) in
     let slot = c.loop-slot.slot in
     let before = c.loop-slot.invariant.0 in
     let less : reached c.loop-slot.best < reached (slot + 1) = omega (arith, c.loop-slot.invariant.3) in
@@ -20,7 +20,7 @@ loop-slot-preserved-then-best_reach-slot_reach g c =
 
 pub loop-slot-preserved : goal.loop-slot-preserved
 loop-slot-preserved g c =
-    let reached = reach g.Kind.Kind.meaning (g.D.SlotDevice.slots c.args.device.now) in
+    let reached = reach g.D.Kind.Kind.meaning (g.D.SlotDevice.slots c.args.device.now) in
     let slot = c.loop-slot.slot in
     let before = c.loop-slot.invariant.0 in
     let no_less : reached (slot + 1) ≤ reached c.loop-slot.best = omega (arith, c.loop-slot.invariant.3) in
@@ -28,6 +28,6 @@ loop-slot-preserved g c =
 
 pub returns : goal.returns
 returns g c =
-    let reached = reach g.Kind.Kind.meaning (g.D.SlotDevice.slots c.args.device.now) in
+    let reached = reach g.D.Kind.Kind.meaning (g.D.SlotDevice.slots c.args.device.now) in
     let whole : c.loop-slot.slot - c.args.from ≡ c.args.to - c.args.from = omega (arith, c.loop-slot.invariant.1) in
     c.loop-slot.invariant.2 ∙ ap (farthest reached c.args.from) whole

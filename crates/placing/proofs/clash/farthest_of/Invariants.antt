@@ -5,7 +5,7 @@ use Rattle.placing.proofs.clash.farthest_of.Given as goal
 
 abbrev pub invariant-loop-slot : goal.invariant-loop-slot
 invariant-loop-slot g l =
-    let reached = reach g.Kind.Kind.meaning (g.D.SlotDevice.slots l.device) in
+    let reached = reach g.D.Kind.Kind.meaning (g.D.SlotDevice.slots l.device) in
     (l.from ≤ l.slot)
     × (l.slot - l.from ≤ l.to - l.from)
     × (l.best ≡ farthest reached l.from (l.slot - l.from))

@@ -13,7 +13,7 @@ returns-then-is_crossed g c =
     let span = c.span-from in
     let untied = sym c.is_tied.ensures ∙ c.if-is_tied.false in
     record {
-      answer = placed_crossed g.Kind.Kind.meaning slots c.args.new untied _ _ span.ensures.low span.ensures.high (sym c.if-is_crossed.ensures);
+      answer = placed_crossed g.D.Kind.Kind.meaning slots c.args.new untied _ _ span.ensures.low span.ensures.high (sym c.if-is_crossed.ensures);
       chain = never_placed Crossed;
     }
 
@@ -23,7 +23,7 @@ returns-then-is_full g c =
     let span = c.span-from in
     let untied = sym c.is_tied.ensures ∙ c.if-is_tied.false in
     record {
-      answer = placed_full g.Kind.Kind.meaning slots c.args.new untied _ _ span.ensures.low span.ensures.high (sym c.if-is_crossed.ensures) (sym c.if-is_full.ensures);
+      answer = placed_full g.D.Kind.Kind.meaning slots c.args.new untied _ _ span.ensures.low span.ensures.high (sym c.if-is_crossed.ensures) (sym c.if-is_full.ensures);
       chain = never_placed NoSlot;
     }
 
@@ -32,17 +32,17 @@ returns g c =
     let slots = g.D.SlotDevice.slots c.args.device.now in
     let span = c.span-from in
     let untied = sym c.is_tied.ensures ∙ c.if-is_tied.false in
-    let jumped = λ (from to : ℕ). jump (is_empty slots) (reach g.Kind.Kind.meaning slots) (usable slots) from to in
+    let jumped = λ (from to : ℕ). jump (is_empty slots) (reach g.D.Kind.Kind.meaning slots) (usable slots) from to in
     record {
-      answer = placed_well g.Kind.Kind.meaning slots c.args.new untied _ _ span.ensures.low span.ensures.high (sym c.if-is_crossed.ensures) (sym c.if-is_full.ensures);
+      answer = placed_well g.D.Kind.Kind.meaning slots c.args.new untied _ _ span.ensures.low span.ensures.high (sym c.if-is_crossed.ensures) (sym c.if-is_full.ensures);
       chain = λ _.
           subst (λ (chain : List ℕ). Names c.jump_from.new.chain chain)
-          (ap (λ (from : ℕ). jumped from span.result.1) span.ensures.low ∙ ap (jumped (low g.Kind.Kind.meaning slots c.args.new)) span.ensures.high)
+          (ap (λ (from : ℕ). jumped from span.result.1) span.ensures.low ∙ ap (jumped (low g.D.Kind.Kind.meaning slots c.args.new)) span.ensures.high)
           c.jump_from.ensures;
     }
 
 pub jump_from-requires : goal.jump_from-requires
 jump_from-requires g c =
     let slots = g.D.SlotDevice.slots c.args.device.now in
-    let bound = past_high (λ (i : ℕ). above g.Kind.Kind.meaning c.args.new (at slots i)) (usable slots) in
+    let bound = past_high (λ (i : ℕ). above g.D.Kind.Kind.meaning c.args.new (at slots i)) (usable slots) in
     (omega arith, omega arith)

@@ -6,16 +6,16 @@ use Rattle.placing.proofs.Steps.{jump_ends, jump_goes}
 use Rattle.placing.proofs.Placed.{longer, one_more, last_one}
 use Rattle.placing.proofs.jumping.jump_from.Goals as goal
 
-pub overflow-add-low : goal.overflow-add-low
-overflow-add-low g c =
-    let reached = reach g.Kind.Kind.meaning (g.D.SlotDevice.slots c.args.device.now) in
+pub overflow_add-low : goal.overflow_add-low
+overflow_add-low g c =
+    let reached = reach g.D.Kind.Kind.meaning (g.D.SlotDevice.slots c.args.device.now) in
     let bound = farthest_high reached c.loop-turns.low (c.loop-turns.high - c.loop-turns.low) in
     omega (arith, c.farthest_of-taken.ensures, c.loop-turns.invariant.0, c.loop-turns.invariant.1)
 
 pub loop-turns-preserved : goal.loop-turns-preserved
 loop-turns-preserved g c =
     let slots = g.D.SlotDevice.slots c.args.device.now in
-    let reached = reach g.Kind.Kind.meaning slots in
+    let reached = reach g.D.Kind.Kind.meaning slots in
     let turns = c.loop-turns.turns in
     let low = c.loop-turns.low in
     let high = c.loop-turns.high in
@@ -32,7 +32,7 @@ loop-turns-preserved g c =
 pub returns-after-loop-turns : goal.returns-after-loop-turns
 returns-after-loop-turns g c =
     let slots = g.D.SlotDevice.slots c.args.device.now in
-    let jumped = jump (is_empty slots) (reach g.Kind.Kind.meaning slots) in
+    let jumped = jump (is_empty slots) (reach g.D.Kind.Kind.meaning slots) in
     let none : c.loop-turns.turns ≡ 0 = omega arith in
     let found = take c.loop-turns.chain.length c.loop-turns.chain.places in
     let are = sym (ap (λ (n : ℕ). found ++ jumped n c.loop-turns.low c.loop-turns.high) none ∙ append-nil found) ∙ c.loop-turns.invariant.4 in
@@ -41,7 +41,7 @@ returns-after-loop-turns g c =
 pub returns-then-empty-high : goal.returns-then-empty-high
 returns-then-empty-high g c =
     let slots = g.D.SlotDevice.slots c.args.device.now in
-    let reached = reach g.Kind.Kind.meaning slots in
+    let reached = reach g.D.Kind.Kind.meaning slots in
     let turns = c.loop-turns.turns in
     let first = c.first_passing-empty.result in
     let ends = jump_ends (is_empty slots) reached turns (turns - 1) c.loop-turns.low c.loop-turns.high first (omega arith) c.first_passing-empty.ensures (omega arith) in

@@ -6,7 +6,7 @@ use Rattle.placing.proofs.jumping.jump_from.Given as goal
 abbrev pub invariant-loop-turns : goal.invariant-loop-turns
 invariant-loop-turns g l =
     let slots = g.D.SlotDevice.slots l.device in
-    let jumped = jump (is_empty slots) (reach g.Kind.Kind.meaning slots) in
+    let jumped = jump (is_empty slots) (reach g.D.Kind.Kind.meaning slots) in
     (l.high < 480)
     × (l.low + l.turns ≤ 960)
     × (l.chain.length + l.turns ≤ 480)

@@ -6,7 +6,7 @@ use Rattle.placing.proofs.scanning.first_passing.Given as goal
 
 abbrev pub invariant-loop-slot : goal.invariant-loop-slot
 invariant-loop-slot g l =
-    let wanted = λ (i : ℕ). passes g.Kind.Kind.meaning l.test (at (g.D.SlotDevice.slots l.device) i) in
+    let wanted = λ (i : ℕ). passes g.D.Kind.Kind.meaning l.test (at (g.D.SlotDevice.slots l.device) i) in
     scan wanted l.slot (l.end - l.slot) ≡ scan wanted l.low (l.end - l.low)
 
 abbrev pub decreases-loop-slot : goal.decreases-loop-slot

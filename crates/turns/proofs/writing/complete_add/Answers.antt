@@ -9,7 +9,7 @@ use Rattle.turns.proofs.writing.complete_add.Goals as goal
 
 pub returns-in_err-allows : goal.returns-in_err-allows
 returns-in_err-allows g c =
-    let fixed = fixed_by g.Kind.Kind.meaning g.D.SlotDevice.traced c.args.number in
+    let fixed = fixed_by g.D.Kind.Kind.meaning g.D.SlotDevice.traced c.args.number in
     let slots = g.D.SlotDevice.slots c.args.device.now in
     let trace = g.D.SlotDevice.trace c.args.device.now in
     let stored = g.D.SlotDevice.stored in
@@ -17,20 +17,20 @@ returns-in_err-allows g c =
     let job = c.args.job.now in
     record {
       takes = subst (λ (r : Result ℕ Refusal). Takes fixed stored (complete (ticket_of c.args.named)) (counting r) (seen slots trace memory job) (seen slots trace memory job)) (sym (at_exit c.from_residual.result _ c.from_residual.ensures.1))
-          (complete_refused fixed stored g.met.Kind.Kind.lawful (seen slots trace memory job) c.args.named _ c.in_err-allows.ensures);
+          (complete_refused fixed stored g.met.D.Kind.Kind.lawful (seen slots trace memory job) c.args.named _ c.in_err-allows.ensures);
       same = refl;
     }
 
 pub loop-device-init : goal.loop-device-init
 loop-device-init g c =
-    let fixed = fixed_by g.Kind.Kind.meaning g.D.SlotDevice.traced c.args.number in
+    let fixed = fixed_by g.D.Kind.Kind.meaning g.D.SlotDevice.traced c.args.number in
     let stored = g.D.SlotDevice.stored in
     let start = shown g.D.SlotDevice c.args.device.now c.args.job.now in
     (close_busy c.args.number c.args.job.now c.args.named c.in_ok-allows.ensures, refl, λ named. on_start fixed stored named start)
 
 pub loop-device-preserved : goal.loop-device-preserved
 loop-device-preserved g c =
-    let fixed = fixed_by g.Kind.Kind.meaning g.D.SlotDevice.traced c.args.number in
+    let fixed = fixed_by g.D.Kind.Kind.meaning g.D.SlotDevice.traced c.args.number in
     let stored = g.D.SlotDevice.stored in
     let start = shown g.D.SlotDevice c.args.device.now c.args.job.now in
     let before = shown g.D.SlotDevice c.loop-device.device c.loop-device.job in
@@ -39,7 +39,7 @@ loop-device-preserved g c =
       ap (λ (j : Job). j.busy) further-is ∙ c.loop-device.invariant.0,
       c.write_next.ensures.same ∙ c.loop-device.invariant.1,
       λ named.
-          on_more fixed stored g.met.Kind.Kind.lawful named start before _ more
+          on_more fixed stored g.met.D.Kind.Kind.lawful named start before _ more
           (record { slots = c.write_next.ensures.slots; trace = c.write_next.ensures.trace; memory = c.write_next.ensures.memory; job = c.write_next.ensures.job }) (c.loop-device.invariant.2 named),
     )
 
@@ -53,8 +53,8 @@ loop-device-smaller g c =
 
 pub returns : goal.returns
 returns g c =
-    let fixed = fixed_by g.Kind.Kind.meaning g.D.SlotDevice.traced c.args.number in
+    let fixed = fixed_by g.D.Kind.Kind.meaning g.D.SlotDevice.traced c.args.number in
     let stored = g.D.SlotDevice.stored in
     let start = shown g.D.SlotDevice c.args.device.now c.args.job.now in
     let before = shown g.D.SlotDevice c.loop-device.device c.loop-device.job in
-    record { takes = complete_done fixed stored g.met.Kind.Kind.lawful start before c.happens.new.self c.args.named _ c.in_ok-allows.ensures (c.loop-device.invariant.2 c.args.named) (omega arith) c.happens.ensures refl; same = c.loop-device.invariant.1 }
+    record { takes = complete_done fixed stored g.met.D.Kind.Kind.lawful start before c.happens.new.self c.args.named _ c.in_ok-allows.ensures (c.loop-device.invariant.2 c.args.named) (omega arith) c.happens.ensures refl; same = c.loop-device.invariant.1 }

@@ -8,7 +8,7 @@ use Rattle.turns.proofs.writing.withdraw_add.Goals as goal
 
 pub returns-in_err-allows : goal.returns-in_err-allows
 returns-in_err-allows g c =
-    let fixed = fixed_by g.Kind.Kind.meaning g.D.SlotDevice.traced c.args.number in
+    let fixed = fixed_by g.D.Kind.Kind.meaning g.D.SlotDevice.traced c.args.number in
     let slots = g.D.SlotDevice.slots c.args.device.now in
     let trace = g.D.SlotDevice.trace c.args.device.now in
     let stored = g.D.SlotDevice.stored in
@@ -16,16 +16,16 @@ returns-in_err-allows g c =
     let job = c.args.job.now in
     record {
       takes = subst (λ (r : Result ℕ Refusal). Takes fixed stored (withdraw (ticket_of c.args.named)) (counting r) (seen slots trace memory job) (seen slots trace memory job)) (sym (at_exit c.from_residual.result _ c.from_residual.ensures.1))
-          (withdraw_refused fixed stored g.met.Kind.Kind.lawful (seen slots trace memory job) c.args.named _ c.in_err-allows.ensures);
+          (withdraw_refused fixed stored g.met.D.Kind.Kind.lawful (seen slots trace memory job) c.args.named _ c.in_err-allows.ensures);
       same = refl;
     }
 
 pub returns : goal.returns
 returns g c =
-    let fixed = fixed_by g.Kind.Kind.meaning g.D.SlotDevice.traced c.args.number in
+    let fixed = fixed_by g.D.Kind.Kind.meaning g.D.SlotDevice.traced c.args.number in
     let slots = g.D.SlotDevice.slots c.args.device.now in
     let trace = g.D.SlotDevice.trace c.args.device.now in
     let stored = g.D.SlotDevice.stored in
     let memory = g.D.SlotDevice.memory c.args.device.now in
     let job = c.args.job.now in
-    record { takes = withdraw_done fixed stored g.met.Kind.Kind.lawful (seen slots trace memory job) _ _ _ _ c.args.named _ c.in_ok-allows.ensures c.in_force-told.ensures c.erase_half_way.ensures.slots c.erase_half_way.ensures.trace c.erase_half_way.ensures.memory c.happens.ensures; same = c.erase_half_way.ensures.same }
+    record { takes = withdraw_done fixed stored g.met.D.Kind.Kind.lawful (seen slots trace memory job) _ _ _ _ c.args.named _ c.in_ok-allows.ensures c.in_force-told.ensures c.erase_half_way.ensures.slots c.erase_half_way.ensures.trace c.erase_half_way.ensures.memory c.happens.ensures; same = c.erase_half_way.ensures.same }

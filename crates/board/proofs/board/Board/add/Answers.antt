@@ -7,9 +7,9 @@ use Rattle.board.proofs.board.Board.add.Goals as goal
 
 pub returns-in-Ok : goal.returns-in-Ok
 returns-in-Ok g c =
-    let fixed = fixed_by g.Kind.Kind.meaning g.D.SlotDevice.traced c.args.self.now.number in
+    let fixed = fixed_by g.D.Kind.Kind.meaning g.D.SlotDevice.traced c.args.self.now.number in
     record {
-      law = lawfully fixed g.met.Kind.Kind.lawful (add c.args.new) _ _ _ (omega arith, omega arith)
+      law = lawfully fixed g.met.D.Kind.Kind.lawful (add c.args.new) _ _ _ (omega arith, omega arith)
           (λ state reached shows.
           let taken = c.in-Ok.ensures state reached shows in
           (ap (λ (named : Named). opened (ticket_of named)) c.of.ensures ∙ taken.0, taken.1));
@@ -18,5 +18,5 @@ returns-in-Ok g c =
 
 pub returns-in-Err : goal.returns-in-Err
 returns-in-Err g c =
-    let fixed = fixed_by g.Kind.Kind.meaning g.D.SlotDevice.traced c.args.self.now.number in
-    record { law = lawfully fixed g.met.Kind.Kind.lawful (add c.args.new) _ _ _ (omega arith, omega arith) c.in-Err.ensures; same = refl }
+    let fixed = fixed_by g.D.Kind.Kind.meaning g.D.SlotDevice.traced c.args.self.now.number in
+    record { law = lawfully fixed g.met.D.Kind.Kind.lawful (add c.args.new) _ _ _ (omega arith, omega arith) c.in-Err.ensures; same = refl }

@@ -7,5 +7,5 @@ use Rattle.board.proofs.board.Board.change.Goals as goal
 
 pub returns : goal.returns
 returns g c =
-    let fixed = fixed_by g.Kind.Kind.meaning g.D.SlotDevice.traced c.args.self.now.number in
-    record { law = lawfully fixed g.met.Kind.Kind.lawful (change_action c.args.rule c.args.action) _ _ _ tt c.change_rule.ensures.takes; same = refl }
+    let fixed = fixed_by g.D.Kind.Kind.meaning g.D.SlotDevice.traced c.args.self.now.number in
+    record { law = lawfully fixed g.met.D.Kind.Kind.lawful (change_action c.args.rule c.args.action) _ _ _ tt c.change_rule.ensures.takes; same = refl }

@@ -7,5 +7,5 @@ use Rattle.board.proofs.board.Board.look_up.Goals as goal
 
 pub returns : goal.returns
 returns g c =
-    let fixed = fixed_by g.Kind.Kind.meaning g.D.SlotDevice.traced c.args.self.now.number in
-    record { law = lawfully fixed g.met.Kind.Kind.lawful (look_up c.args.subject) _ _ _ tt c.look_up_rule.ensures }
+    let fixed = fixed_by g.D.Kind.Kind.meaning g.D.SlotDevice.traced c.args.self.now.number in
+    record { law = lawfully fixed g.met.D.Kind.Kind.lawful (look_up c.args.subject) _ _ _ tt c.look_up_rule.ensures }

@@ -6,7 +6,7 @@ use Rattle.lent_board.proofs.board.Board.open.Goals as goal
 pub returns : goal.returns
 returns g c =
     record {
-      law = led_start (fixed_by g.Kind.Kind.meaning g.D.SlotDevice.traced c.args.number) g.D.SlotDevice.stored _ _ _ _
+      law = led_start (fixed_by g.D.Kind.Kind.meaning g.D.SlotDevice.traced c.args.number) g.D.SlotDevice.stored _ _ _ _
           (record { slots = c.clear.ensures.slots; trace = c.clear.ensures.trace; job = refl }) c.clear.ensures.memory;
       number = refl;
       device = refl;

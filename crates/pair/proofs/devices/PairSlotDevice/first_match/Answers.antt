@@ -7,5 +7,5 @@ pub returns : goal.returns
 returns g c = record {
   answer =
       c.match_in_halves.ensures
-      ∙ match_halves (slot_matches g.row.D-Kind-Kind.meaning c.args.subject) (g.D.SlotDevice.slots c.args.self.now.first) (g.E.SlotDevice.slots c.args.self.now.second);
+      ∙ match_halves (slot_matches g.D.Kind.Kind.meaning c.args.subject) (g.D.SlotDevice.slots c.args.self.now.first) (g.E.SlotDevice.slots c.args.self.now.second);
 }

@@ -28,7 +28,7 @@ loop-outcome-preserved c =
     let told = subst (λ outcome. Gives (front left) offset left (Some outcome)) c.in-Ok.is c.in-Some.ensures.answer in
     let moved : c.next_order.new.self.offset ≡ offset + length (bytes_of order) = c.in-Some.ensures.offset ∙ ap (λ outcome. offset_after offset (Some outcome)) c.in-Ok.is in
     let given = subst (λ bytes. Gives (front (drop offset bytes)) offset (drop offset bytes) (Some (Ok order))) c.loop-outcome.invariant.0 told in
-    let pushed : map entry_of (vec_items c.push.new.self) ≡ entries ++ entry_of order ∷ [] = ap (map entry_of) (chosen _ _ _ _ c.push.ensures.items (ap is_ok c.in_ok-push.was)) ∙ map_push entry_of (vec_items c.loop-outcome.orders) order in
+    let pushed : map entry_of (vec_items c.push.new.self) ≡ entries ++ entry_of order ∷ [] = ap (map entry_of) (chosen _ _ _ _ c.push.ensures.items (ap is_ok c.in_ok-push-in-Ok.was)) ∙ map_push entry_of (vec_items c.loop-outcome.orders) order in
     let more = one_more input entries offset (entry_of order) (length (bytes_of order)) c.loop-outcome.invariant.1 given.0 given.1 in (
       ap (λ reference. reference.now) c.next_order.ensures.input ∙ c.loop-outcome.invariant.0,
       subst (λ place. Sofar input (map entry_of (vec_items c.push.new.self)) place) (sym moved)

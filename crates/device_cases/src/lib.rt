@@ -14,9 +14,9 @@ use rules::{Refusal, Rule, SlotDevice};
 mod tests;
 
 pub fn write_any<D: SlotDevice>(device: &mut D, slot: u16, rule: Rule) -> Result<(), Refusal>
-    ensures answer { result ≡ answer (writing (length (slots device.old)) slot rule) }
-    ensures memory { memory device.new ≡ after stored (memory device.old) (writing (length (slots device.old)) slot rule) }
-    ensures same { lenders device.new ≡ lenders device.old }
+    ensures answer { result ≡ answer (writing (length (D.SlotDevice.slots device.old)) slot rule) }
+    ensures memory { D.SlotDevice.memory device.new ≡ after D.SlotDevice.stored (D.SlotDevice.memory device.old) (writing (length (D.SlotDevice.slots device.old)) slot rule) }
+    ensures same { D.SlotDevice.lenders device.new ≡ D.SlotDevice.lenders device.old }
 {
     device.write(slot, rule)
 }

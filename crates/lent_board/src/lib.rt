@@ -7,9 +7,9 @@ mod calls;
 mod serving;
 mod ticket;
 
+pub use board::{Board, Returned};
 pub use caller::Caller;
 pub use calls::{Answer, Call};
 pub use job::Named;
-pub use lent_board::{Board, Returned};
 pub use serving::serve;
 pub use ticket::Ticket;

@@ -7,7 +7,7 @@ ghost use Rattle.shifting.specs.Machine.{counted, found, refused};
 
 use lent_board::Answer;
 use rules::Refusal;
-use std::fmt;
+use std::alloc::AllocError;
 
 // What a line tells of an answer: the refusal's number or 0, and a value, where there is one.
 #[derive(Clone, Copy)]
@@ -72,7 +72,12 @@ impl Reply {
 }
 
 // Letter, place, refusal number and value, one space apart.
-pub(crate) fn write_line(text: &mut String, letter: u8, place: usize, reply: Reply) -> fmt::Result
+pub(crate) fn write_line(
+    text: &mut String,
+    letter: u8,
+    place: usize,
+    reply: Reply,
+) -> Result<(), AllocError>
     requires { letter < 128 }
     ensures { OnOk result (string_bytes text.new ≡ string_bytes text.old ++ line letter place reply.refusal reply.value) }
 {

@@ -3,7 +3,7 @@ use Rattle.std.proofs.Common.{◌≡◌, ℕ, false, List, [], ◌∷◌, ◌++�
 use Rattle.rules.specs.Kinds.{KindLaws}
 use Rattle.shifting.specs.Slots.{Slot}
 use Rattle.shifting.specs.Machine.{Call, Answer, State, Fixed, cleared, turn, after}
-use Rattle.std.specs.List.{AllByRecursion as All}
+use Rattle.std.specs.List.{AllByRecursion}
 use Rattle.shifting.specs.Law.{Sized}
 use Rattle.shifting.proofs.Lawful.{law_of_runs}
 use Rattle.board.specs.declared.job.Job.{Job}
@@ -16,7 +16,7 @@ use Rattle.board.proofs.Turned.{after_more, sized_more}
 -- the calls so far, of which the caller knows, and the board that they led to
 pub record Serving {C : Type 0} (holds : Between C) (fixed : Fixed) (slots : List Slot) (trace : ℕ) (caller : C) (board : Seen) : Type 0 where
   pub calls : List Call
-  pub sized : All Sized calls
+  pub sized : AllByRecursion Sized calls
   pub shows : Shows board (after fixed (cleared fixed slots trace) calls)
   pub held : holds caller (past fixed slots trace calls)
 
@@ -25,7 +25,7 @@ abbrev pub Serves : {C : Type 0} → Between C → Fixed → C → Seen → C �
 Serves holds fixed first start caller board =
     (slots : List Slot) (trace : ℕ) → Shows start (cleared fixed slots trace) → holds first (past fixed slots trace []) → Serving holds fixed slots trace caller board
 
-pub reached_so : (fixed : Fixed) (slots : List Slot) (trace : ℕ) (calls : List Call) → All Sized calls → Reached fixed (after fixed (cleared fixed slots trace) calls)
+pub reached_so : (fixed : Fixed) (slots : List Slot) (trace : ℕ) (calls : List Call) → AllByRecursion Sized calls → Reached fixed (after fixed (cleared fixed slots trace) calls)
 reached_so fixed slots trace calls sized = record { slots = slots; trace = trace; calls = calls; sized = sized; is = refl }
 
 module _ {C : Type 0} (holds : Between C) (fixed : Fixed) where

@@ -10,7 +10,7 @@ use Rattle.rules.specs.Kinds.{KindMeaning, KindLaws}
 use Rattle.shifting.specs.Slots.{Slot, all_carried_out}
 use Rattle.shifting.specs.Machine.{Ticket, Call, Answer, opened, counted, done, found, refused, State, Fixed, Turn, all_traced, does, refuse, when_idle, names, when_named, written, turn, after, cleared}
 use Rattle.shifting.specs.Machine.{Job as OpenAdd}
-use Rattle.std.specs.List.{AllByRecursion as All}
+use Rattle.std.specs.List.{AllByRecursion}
 use Rattle.shifting.proofs.Serving.{Brings, sized_from}
 use Rattle.shifting.specs.Law.{Sized}
 use Rattle.shifting.proofs.Sound.{Sound, sound_after, cleared_sound}
@@ -42,7 +42,7 @@ pub after_more : (fixed : Fixed) (calls : List Call) (state : State) (call : Cal
 after_more fixed [] state call = refl
 after_more fixed (first ∷ calls) state call = after_more fixed calls (turn fixed state first).next call
 
-pub sized_more : (calls : List Call) (call : Call) → All Sized calls → Sized call → All Sized (calls ++ call ∷ [])
+pub sized_more : (calls : List Call) (call : Call) → AllByRecursion Sized calls → Sized call → AllByRecursion Sized (calls ++ call ∷ [])
 sized_more [] call sized one = (one, tt)
 sized_more (first ∷ calls) call sized one = (sized.0, sized_more calls call sized.1 one)
 

@@ -3,7 +3,7 @@ use Rattle.std.specs.Prelude.{◌≡◌, ℕ, List, [], ◌∷◌, ◌++◌, Ok,
 use Rattle.rules.specs.declared.refusal.Refusal.{Refusal}
 use Rattle.shifting.specs.Slots.{Slot}
 use Rattle.shifting.specs.Machine.{Call, Answer, opened, counted, refused, Fixed, cleared, turn, after}
-use Rattle.std.specs.List.{AllByRecursion as All}
+use Rattle.std.specs.List.{AllByRecursion}
 use Rattle.shifting.specs.Law.{Sized, LawOfRun}
 use Rattle.board.specs.declared.ticket.Ticket.{Ticket}
 use Rattle.board.specs.declared.board.Returned.{Returned}
@@ -11,7 +11,7 @@ use Rattle.board.specs.Shown.{Seen, Shows, ticket_of}
 
 -- a board that these calls led to, from a device with these slots and this trace, which was cleared
 pub record Led (fixed : Fixed) (slots : List Slot) (trace : ℕ) (calls : List Call) (board : Seen) : Type 0 where
-  pub sized : All Sized calls
+  pub sized : AllByRecursion Sized calls
   pub shows : Shows board (after fixed (cleared fixed slots trace) calls)
 
 -- one more call: its answer is the machine's, the board is led by the longer list, and the law holds of that list

@@ -11,7 +11,7 @@ use Rattle.shifting.specs.Chains.{scan}
 use Rattle.shifting.specs.Slots.{Slot, at}
 use Rattle.shifting.specs.Machine.{Ticket, Call, Answer, opened, counted, done, found, refused, State, Fixed, Turn, cleared, held, has_number, turn, after}
 use Rattle.shifting.specs.Machine.{Job as OpenAdd}
-use Rattle.std.specs.List.{AllByRecursion as All}
+use Rattle.std.specs.List.{AllByRecursion}
 use Rattle.shifting.specs.Law.{Sized}
 use Rattle.placing.specs.Placing.{Names}
 use Rattle.board.specs.declared.ticket.Named.{Named}
@@ -47,7 +47,7 @@ pub record Reached (fixed : Fixed) (state : State) : Type 0 where
   pub slots : List Slot
   pub trace : ℕ
   pub calls : List Call
-  pub sized : All Sized calls
+  pub sized : AllByRecursion Sized calls
   pub is : state ≡ after fixed (cleared fixed slots trace) calls
 
 abbrev pub fixed_by : KindMeaning → (ℕ → Event → ℕ) → ℕ → Fixed

@@ -1,6 +1,6 @@
 -- The law on each call of a board. Assumes nothing.
 use Rattle.std.specs.Prelude.{◌≡◌, ℕ, List, [], ◌∷◌, ◌++◌, Ok, Err, Result}
-use Rattle.std.specs.List.{AllByRecursion as All}
+use Rattle.std.specs.List.{AllByRecursion}
 use Rattle.rules.specs.declared.event.Event.{Event}
 use Rattle.rules.specs.declared.refusal.Refusal.{Refusal}
 use Rattle.rules.specs.declared.device.SlotDevice.{Ghosts}
@@ -17,7 +17,7 @@ use Rattle.lent_board.specs.Past.{Past, past, past_of, one_more, state_of, answe
 
 -- a board that this past led to, over a device whose memory was this before it was cleared
 pub record Led {Memory : Type 0} (stored : Memory → Event → Memory) (memory : Memory) (before : Past) (board : Seen Memory) : Type 0 where
-  pub sized : All Sized before.calls
+  pub sized : AllByRecursion Sized before.calls
   pub shows : Shows board (state_of before)
   pub lent : board.memory ≡ all_after stored memory (events_in before)
 

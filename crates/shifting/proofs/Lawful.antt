@@ -1,6 +1,6 @@
 -- The six parts of the law, of every call of every run. Assumes nothing.
 use Rattle.std.proofs.Common.{◌≡◌, ℕ, Bool, true, false, cond, ltb, List, [], ◌∷◌, ◌++◌, length, Some, None, sym, refl, subst, arith}
-use Rattle.std.specs.List.{AllByRecursion as All}
+use Rattle.std.specs.List.{AllByRecursion}
 use Rattle.std.proofs.lemmas.Bool.{cond_both, ltb-true, ltb-false}
 use Rattle.std.proofs.lemmas.List.{take_all}
 use Rattle.rules.specs.declared.rule.Rule.{Rule}
@@ -127,7 +127,7 @@ module _ (fixed : Fixed) (laws : KindLaws fixed.kind) (state : State) (sound : S
         };
       }
 
-sized_parts : (before : List Call) (call : Call) (rest : List Call) → All Sized (before ++ call ∷ rest) → All Sized before × Sized call
+sized_parts : (before : List Call) (call : Call) (rest : List Call) → AllByRecursion Sized (before ++ call ∷ rest) → AllByRecursion Sized before × Sized call
 sized_parts [] call rest sized = (tt, sized.0)
 sized_parts (first ∷ before) call rest sized =
     let parts = sized_parts before call rest sized.1 in
@@ -136,5 +136,5 @@ sized_parts (first ∷ before) call rest sized =
 pub law_of_runs : LawOfRuns
 law_of_runs fixed laws slots trace calls sized before call rest are =
     let start = cleared fixed slots trace in
-    let parts = sized_parts before call rest (subst (All Sized) are sized) in
+    let parts = sized_parts before call rest (subst (AllByRecursion Sized) are sized) in
     lawful fixed laws (after fixed start before) (sound_after fixed laws before start parts.0 (cleared_sound fixed laws slots trace)) call parts.1

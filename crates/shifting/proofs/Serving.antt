@@ -1,7 +1,7 @@
 -- What code that serves a board cites: the machine's events one by one, its chain by places, its tests by slots, and runs with one call more.
 -- Assumes nothing.
 use Rattle.std.proofs.Common.{◌≡◌, ℕ, zero, suc, ◌+◌, ◌-◌, ◌<◌, ◌≤◌, true, eqb, ltb, List, [], ◌∷◌, ◌++◌, reverse, length, get_or, take, drop, set, Some, sym, refl, ap, ◌∙◌, inl, inr, ⊎_elim, arith}
-use Rattle.std.specs.List.{AllByRecursion as All}
+use Rattle.std.specs.List.{AllByRecursion}
 use Rattle.std.proofs.lemmas.Bool.{ltb-true, lt-ltb, eqb-true, eq-eqb, or_cases}
 use Rattle.std.proofs.lemmas.List.{get_or-reverse, length-reverse, drop_all, drop_more}
 use Rattle.std.proofs.lemmas.Bool.Decides.{same_from_decides}
@@ -83,16 +83,16 @@ pub after_push : (fixed : Fixed) (calls : List Call) (state : State) (call : Cal
 after_push fixed [] state call = refl
 after_push fixed (first ∷ calls) state call = after_push fixed calls (turn fixed state first).next call
 
-pub sized_push : (calls : List Call) (call : Call) → All Sized calls → Sized call → All Sized (calls ++ call ∷ [])
+pub sized_push : (calls : List Call) (call : Call) → AllByRecursion Sized calls → Sized call → AllByRecursion Sized (calls ++ call ∷ [])
 sized_push [] call sized one = (one, tt)
 sized_push (first ∷ calls) call sized one = (sized.0, sized_push calls call sized.1 one)
 
 -- every state that a list of calls leads to is sound
-pub led_sound : (fixed : Fixed) (laws : KindLaws fixed.kind) (slots : List Slot) (trace : ℕ) (calls : List Call) → All Sized calls
+pub led_sound : (fixed : Fixed) (laws : KindLaws fixed.kind) (slots : List Slot) (trace : ℕ) (calls : List Call) → AllByRecursion Sized calls
     → Sound fixed laws (after fixed (cleared fixed slots trace) calls)
 led_sound fixed laws slots trace calls sized = sound_after fixed laws calls (cleared fixed slots trace) sized (cleared_sound fixed laws slots trace)
 
-pub law_push : (fixed : Fixed) → KindLaws fixed.kind → (slots : List Slot) (trace : ℕ) (calls : List Call) (call : Call) → All Sized calls → Sized call
+pub law_push : (fixed : Fixed) → KindLaws fixed.kind → (slots : List Slot) (trace : ℕ) (calls : List Call) (call : Call) → AllByRecursion Sized calls → Sized call
     → LawOfRun fixed slots trace (calls ++ call ∷ [])
 law_push fixed laws slots trace calls call sized one = law_of_runs fixed laws slots trace (calls ++ call ∷ []) (sized_push calls call sized one)
 

@@ -1,6 +1,6 @@
 -- What holds between the calls of a run, and inside each call. Assumes nothing.
 use Rattle.std.proofs.Common.{◌≡◌, ℕ, zero, suc, ◌+◌, ◌-◌, ◌<◌, ◌≤◌, Bool, true, false, cond, not, ◌&&◌, ◌||◌, eqb, ltb, ◌⊎◌, List, [], ◌∷◌, reverse, length, get_or, take, drop, set, Some, None, Option, sym, refl, ap, ◌∙◌, subst, inl, inr, ⊎_elim, arith}
-use Rattle.std.specs.List.{AllByRecursion as All}
+use Rattle.std.specs.List.{AllByRecursion}
 use Rattle.std.proofs.lemmas.Bool.{cases_eq, cases_lt, cond_both, cond-true, cond-false, both_ways, eq-eqb, ne_eqb, eqb-true, eqb-false, lt-ltb, le-ltb, ltb-true, ltb-false, and_from, and_right, and_parts, and_cases, or_parts, not-false}
 use Rattle.std.proofs.lemmas.List.{length-set, length-drop, length-reverse, get_or_past}
 use Rattle.rules.specs.declared.rule.Rule.{Rule}
@@ -297,7 +297,7 @@ module _ (fixed : Fixed) (laws : KindLaws fixed.kind) where
       subst (λ (slots : List Slot). Phase slots (turn fixed state call).next.rules (turn fixed state call).next.job) (sym (slots_by_events fixed state call))
       (call_step state call sized sound).leaves
 
-  pub sound_after : (calls : List Call) (state : State) → All Sized calls → Sound state → Sound (after fixed state calls)
+  pub sound_after : (calls : List Call) (state : State) → AllByRecursion Sized calls → Sound state → Sound (after fixed state calls)
   sound_after [] state sized sound = sound
   sound_after (call ∷ calls) state sized sound = sound_after calls (turn fixed state call).next sized.1 (sound_next state call sized.0 sound)
 

@@ -1,6 +1,6 @@
 -- The law of runs: what holds of every call in every list of calls from a cleared board. Assumes nothing.
 use Rattle.std.specs.Prelude.{◌≡◌, ℕ, ◌+◌, ◌≤◌, true, false, cond, ◌≢◌, ◌⊎◌, List, [], ◌∷◌, ◌++◌, length, take, Some, None, Option, nat_lt}
-use Rattle.std.specs.List.{AllByRecursion as All}
+use Rattle.std.specs.List.{AllByRecursion}
 use Rattle.rules.specs.declared.rule.Rule.{Rule}
 use Rattle.rules.specs.declared.refusal.Refusal.{Refusal}
 use Rattle.rules.specs.Kinds.{KindMeaning, KindLaws, Word}
@@ -144,7 +144,7 @@ LawOfRun fixed slots trace calls =
 -- For every kind that keeps its law, every trace rule and board number, every device and every list of calls, refused or not.
 abbrev pub LawOfRuns : Type 0
 LawOfRuns =
-    (fixed : Fixed) → KindLaws fixed.kind → (slots : List Slot) (trace : ℕ) (calls : List Call) → All Sized calls → LawOfRun fixed slots trace calls
+    (fixed : Fixed) → KindLaws fixed.kind → (slots : List Slot) (trace : ℕ) (calls : List Call) → AllByRecursion Sized calls → LawOfRun fixed slots trace calls
 
 -- If a rule has a downward chain at all, the jump rule gives one, and none is shorter: in every table, also one out of order.
 abbrev pub JumpRule : Type 0

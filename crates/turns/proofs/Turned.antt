@@ -11,7 +11,7 @@ use Rattle.rules.specs.Slots.{all_after}
 use Rattle.shifting.specs.Slots.{Slot, all_carried_out}
 use Rattle.shifting.specs.Machine.{Ticket, Call, Answer, opened, counted, done, found, refused, State, Fixed, Turn, all_traced, does, refuse, when_idle, names, when_named, written, turn, after, cleared}
 use Rattle.shifting.specs.Machine.{Job as OpenAdd}
-use Rattle.std.specs.List.{AllByRecursion as All}
+use Rattle.std.specs.List.{AllByRecursion}
 use Rattle.shifting.proofs.Serving.{Brings, sized_from, after_push, sized_push}
 use Rattle.shifting.specs.Law.{Sized}
 use Rattle.shifting.proofs.Sound.{Sound, sound_after, cleared_sound}

@@ -1,6 +1,6 @@
 -- The worked cases: one list of questions with their answers, and the statement that every one holds.
 -- A dial pattern is given by its word, with 0 as the other word where nothing else is said. Assumes nothing.
-use Rattle.std.specs.Prelude.{◌≡◌, ℕ, Bool, true, false, List, [], ◌∷◌, length, Some, None}
+use Rattle.std.specs.Prelude.{◌≡◌, ℕ, Bool, true, false, List, [], ◌∷◌, Some, None}
 use Rattle.rules.specs.declared.rule.Rule.{Rule}
 use Rattle.rules.specs.declared.refusal.Refusal.TheVariants.{Busy, Tied, Crossed, NoSlot, Foreign}
 use Rattle.kinds.specs.DialRules.{dial_meaning}

@@ -4,12 +4,12 @@
 set -euo pipefail
 cd "$(dirname "$0")/.."
 
-kit=$(dirname "$(dirname "$(rt doc)")")
-rt staticlib c_interface | tail -n 1
+kit=$(dirname "$(rt doc)")
+(cd crates/c_interface && rt lib | tail -n 1)
 
 mkdir -p target/c
 "${CC:-cc}" -std=c11 -O2 -Wall -Wextra -Wpedantic -Werror -I c c/example.c \
-    target/staticlib/libc_interface.a "$kit/lib/librattle_c.a" -o target/c/example
+    crates/c_interface/out/libc_interface.a "$kit/c/liblibc_c.a" -o target/c/example
 target/c/example
 
 echo "c/build.sh: ok"

@@ -14,12 +14,12 @@ fn main() {
         .parent()
         .expect("the package is a folder of the repository");
     let product = env::var_os("EXCHANGE_LIBRARY_FOLDER")
-        .map_or_else(|| repository.join("target/staticlib"), PathBuf::from);
+        .map_or_else(|| repository.join("crates/c_interface/out"), PathBuf::from);
     let kit =
         env::var_os("RATTLE_HOME").map_or_else(|| PathBuf::from("/opt/rattle"), PathBuf::from);
     link(&product, "c_interface");
     // After the product, which uses it to find memory.
-    link(&kit.join("lib"), "rattle_c");
+    link(&kit.join("c"), "libc_c");
 }
 
 fn link(folder: &Path, name: &str) {

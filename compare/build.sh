@@ -3,13 +3,14 @@
 # proves them, and the Rust package beside them.
 set -euo pipefail
 cd "$(dirname "$0")/.."
-rt check exchange
-# `rt staticlib` proves its crate anew each time, so it is asked only when something has changed.
-library=target/staticlib/libc_interface.a
-if [ ! -f "$library" ] || [ -n "$(find crates crates.txt -newer "$library" -print -quit)" ]; then
-    rt staticlib c_interface
+# The program stays where it was built, as crates/dial_exchange/out/dial_exchange; here it is run on no orders.
+(cd crates/dial_exchange && rt run </dev/null)
+# `rt lib` links anew each time, so it is asked only when something has changed.
+library=crates/c_interface/out/libc_interface.a
+if [ ! -f "$library" ] || [ -n "$(find crates crates.txt -name out -prune -o -newer "$library" -print -quit)" ]; then
+    (cd crates/c_interface && rt lib)
 fi
-# The kit's own C code is linked too; its folder is two above the page that `rt doc` names.
-RATTLE_HOME=$(dirname "$(dirname "$(rt doc)")")
+# The kit's own C code is linked too; it lies beside the page that `rt doc` names.
+RATTLE_HOME=$(dirname "$(rt doc)")
 export RATTLE_HOME
 cargo build --release --quiet --manifest-path compare/Cargo.toml

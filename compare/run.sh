@@ -3,4 +3,4 @@
 set -euo pipefail
 here=$(cd "$(dirname "$0")" && pwd -P)
 "$here/build.sh"
-exec "$here/target/release/compare" "$here/../target/bin/exchange" "$@"
+exec "$here/target/release/compare" "$here/../crates/dial_exchange/out/dial_exchange" "$@"

@@ -9,7 +9,7 @@ use std::process::Command;
 fn the_example_in_c_runs() {
     let repository = Path::new(env!("CARGO_MANIFEST_DIR")).join("..");
     let product = env::var_os("EXCHANGE_LIBRARY_FOLDER")
-        .map_or_else(|| repository.join("target/staticlib"), PathBuf::from);
+        .map_or_else(|| repository.join("crates/c_interface/out"), PathBuf::from);
     let kit =
         env::var_os("RATTLE_HOME").map_or_else(|| PathBuf::from("/opt/rattle"), PathBuf::from);
     let program = Path::new(env!("CARGO_TARGET_TMPDIR")).join("c_example");
@@ -25,7 +25,7 @@ fn the_example_in_c_runs() {
         .arg(repository.join("c"))
         .arg(repository.join("c/example.c"))
         .arg(product.join("libc_interface.a"))
-        .arg(kit.join("lib/librattle_c.a"))
+        .arg(kit.join("c/liblibc_c.a"))
         .arg("-o")
         .arg(&program)
         .status()

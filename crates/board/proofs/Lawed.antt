@@ -1,16 +1,15 @@
 -- A call that takes the machine's turn keeps the law. Assumes nothing.
-use Rattle.std.proofs.Common.{◌≡◌, ℕ, suc, ◌+◌, ◌-◌, ◌<◌, ◌≤◌, List, [], ◌∷◌, ◌++◌, sym, refl, ap, ◌∙◌, subst, add-one, arith}
+use Rattle.std.proofs.Common.{◌≡◌, ℕ, suc, ◌+◌, ◌-◌, ◌<◌, List, [], ◌∷◌, ◌++◌, sym, refl, ap, ◌∙◌, subst, add-one, arith}
 use Rattle.rules.specs.declared.event.Event.{Event}
 use Rattle.rules.specs.declared.event.Event.TheVariants.{Erase}
 use Rattle.rules.specs.Kinds.{KindLaws}
 use Rattle.rules.specs.Slots.{erasing}
 use Rattle.rules.specs.Slots.{after as left_after}
-use Rattle.shifting.specs.Slots.{Slot}
-use Rattle.shifting.specs.Machine.{Call, Answer, State, Fixed, cleared, erases, turn, after}
+use Rattle.shifting.specs.Machine.{Call, Answer, Fixed, cleared, erases, after}
 use Rattle.shifting.proofs.Serving.{Brings, sized_from}
 use Rattle.shifting.proofs.Lawful.{law_of_runs}
 use Rattle.board.specs.Shown.{Seen, Shows, Takes}
-use Rattle.board.specs.Led.{Led, LedOn, Lawfully}
+use Rattle.board.specs.Led.{Lawfully}
 use Rattle.board.proofs.Turned.{after_more, sized_more}
 use Rattle.board.proofs.Drops.{erasing_ok}
 

@@ -1,13 +1,12 @@
 -- A caller that is served, from call to call. Assumes nothing.
-use Rattle.std.proofs.Common.{◌≡◌, ℕ, false, List, [], ◌∷◌, ◌++◌, sym, refl, ap, ◌∙◌, subst}
+use Rattle.std.proofs.Common.{◌≡◌, ℕ, List, [], ◌∷◌, ◌++◌, sym, refl, subst}
 use Rattle.rules.specs.Kinds.{KindLaws}
 use Rattle.shifting.specs.Slots.{Slot}
-use Rattle.shifting.specs.Machine.{Call, Answer, State, Fixed, cleared, turn, after}
+use Rattle.shifting.specs.Machine.{Call, Fixed, cleared, after}
 use Rattle.std.specs.List.{AllByRecursion}
 use Rattle.shifting.specs.Law.{Sized}
 use Rattle.shifting.proofs.Lawful.{law_of_runs}
-use Rattle.board.specs.declared.job.Job.{Job}
-use Rattle.board.specs.Shown.{Seen, seen, Shows, Reached, Takes}
+use Rattle.board.specs.Shown.{Seen, Shows, Reached, Takes}
 use Rattle.board.specs.declared.calls.Answer.{Answer as RealAnswer}
 use Rattle.board.specs.Calls.{answer_of, returned, goes_back}
 use Rattle.board.specs.Serving.{Past, past, Between, Waiting, Answers, one_more, Served}

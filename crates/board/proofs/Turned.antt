@@ -1,14 +1,14 @@
 -- How a call on a board is a turn of the machine. Assumes nothing.
-use Rattle.std.proofs.Common.{◌≡◌, ℕ, suc, ◌+◌, ◌-◌, ◌<◌, ◌≤◌, Bool, true, false, cond, not, ◌&&◌, ◌||◌, eqb, ltb, ◌⊎◌, List, [], ◌∷◌, ◌++◌, length, IsErrAnd, Some, None, Ok, Err, Option, Result, sym, refl, ap, ◌∙◌, subst, inl, inr, ⊎_elim, arith}
+use Rattle.std.proofs.Common.{◌≡◌, ℕ, ◌<◌, ◌≤◌, Bool, true, false, cond, ◌&&◌, eqb, ltb, List, [], ◌∷◌, ◌++◌, IsErrAnd, Some, None, Ok, Err, Option, Result, sym, refl, ap, ◌∙◌, subst, ⊎_elim, arith}
 use Rattle.std.proofs.lemmas.Bool.{cond-true, cond-false, cond_both, cases_Bool, both_ways, ltb-true, ltb-false}
 use Rattle.std.proofs.lemmas.Result.{err_from_is_err_and}
 use Rattle.rules.specs.declared.rule.Rule.{Rule}
 use Rattle.rules.specs.declared.event.Event.{Event}
 use Rattle.rules.specs.declared.refusal.Refusal.{Refusal}
 use Rattle.rules.specs.declared.refusal.Refusal.TheVariants.{Busy, Foreign, RunOut}
-use Rattle.rules.specs.Kinds.{KindMeaning, KindLaws}
+use Rattle.rules.specs.Kinds.{KindLaws}
 use Rattle.shifting.specs.Slots.{Slot, all_carried_out}
-use Rattle.shifting.specs.Machine.{Ticket, Call, Answer, opened, counted, done, found, refused, State, Fixed, Turn, all_traced, does, refuse, when_idle, names, when_named, written, turn, after, cleared}
+use Rattle.shifting.specs.Machine.{Call, Answer, refused, State, Fixed, Turn, all_traced, does, refuse, when_idle, names, when_named, written, turn, after, cleared}
 use Rattle.shifting.specs.Machine.{Job as OpenAdd}
 use Rattle.std.specs.List.{AllByRecursion}
 use Rattle.shifting.proofs.Serving.{Brings, sized_from}

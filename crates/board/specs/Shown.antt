@@ -1,5 +1,5 @@
 -- What a board shows of the machine, and what it is for a call to do what the machine does. Assumes nothing.
-use Rattle.std.specs.Prelude.{◌≡◌, ℕ, ◌-◌, Bool, true, false, cond, not, ◌&&◌, ◌||◌, List, [], length, Some, None, Ok, Err, Option, Result, ◌==◌, nat_lt, slice_index}
+use Rattle.std.specs.Prelude.{◌≡◌, ℕ, ◌-◌, Bool, true, false, cond, not, ◌&&◌, ◌||◌, List, length, Some, None, Ok, Err, Option, Result, ◌==◌, nat_lt, slice_index}
 use Rattle.rules.specs.declared.rule.Rule.{Rule}
 use Rattle.rules.specs.declared.event.Event.{Event}
 use Rattle.rules.specs.declared.refusal.Refusal.{Refusal}
@@ -9,7 +9,7 @@ use Rattle.rules.specs.Slots.{erasing}
 use Rattle.rules.specs.Slots.{after as left_after}
 use Rattle.shifting.specs.Chains.{scan}
 use Rattle.shifting.specs.Slots.{Slot, at}
-use Rattle.shifting.specs.Machine.{Ticket, Call, Answer, opened, counted, done, found, refused, State, Fixed, Turn, cleared, held, has_number, turn, after}
+use Rattle.shifting.specs.Machine.{Ticket, Call, Answer, opened, counted, done, found, refused, State, Fixed, cleared, held, has_number, turn, after}
 use Rattle.shifting.specs.Machine.{Job as OpenAdd}
 use Rattle.std.specs.List.{AllByRecursion}
 use Rattle.shifting.specs.Law.{Sized}

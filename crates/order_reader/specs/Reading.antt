@@ -4,7 +4,7 @@ use Rattle.rules.specs.declared.refusal.Refusal.{Refusal}
 use Rattle.rules.specs.declared.refusal.Refusal.TheVariants.{CutShort}
 use Rattle.orders.specs.declared.order.Order.{Order}
 use Rattle.orders.specs.declared.part.Part.{Part}
-use Rattle.orders.specs.Layout.{Front, front, end, whole, damaged}
+use Rattle.orders.specs.Layout.{Front, end, whole, damaged}
 use Rattle.orders.specs.Orders.{Entry, entry_of, bytes_of}
 
 -- the order of so many bytes at the front of what is left

@@ -1,14 +1,13 @@
 -- Why a new rule has no place, and the chain when it has one. Assumes nothing.
-use Rattle.std.proofs.Common.{◌≡◌, ℕ, suc, ◌+◌, ◌-◌, ◌<◌, ◌≤◌, Bool, true, false, cond, ltb, List, [], ◌∷◌, ◌++◌, length, take, Ok, Err, Result, sym, refl, ap, ◌∙◌, append_assoc, append-nil, arith}
+use Rattle.std.proofs.Common.{◌≡◌, ℕ, suc, ◌+◌, true, false, cond, ltb, List, [], ◌∷◌, ◌++◌, length, Ok, Err, Result, sym, ap, ◌∙◌, append_assoc, arith}
 use Rattle.std.proofs.lemmas.List.{length_push}
 use Rattle.std.proofs.lemmas.Bool.{cond-true, cond-false}
 use Rattle.rules.specs.declared.rule.Rule.{Rule}
 use Rattle.rules.specs.declared.refusal.Refusal.{Refusal}
 use Rattle.rules.specs.declared.refusal.Refusal.TheVariants.{Tied, Crossed, NoSlot}
 use Rattle.rules.specs.Kinds.{KindMeaning}
-use Rattle.shifting.specs.Slots.{Slot, low, high, tied, crossed, no_slot, jump_chain}
-use Rattle.placing.specs.declared.chain.Chain.{Chain}
-use Rattle.placing.specs.Placing.{placing, full_from, Names}
+use Rattle.shifting.specs.Slots.{Slot, low, high, tied, crossed, no_slot}
+use Rattle.placing.specs.Placing.{placing, full_from}
 use Rattle.placing.proofs.Steps.{crossed_span}
 
 abbrev Placed : Type 0

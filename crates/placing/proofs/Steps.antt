@@ -1,7 +1,7 @@
 -- One step of each loop over slots. Assumes nothing.
-use Rattle.std.proofs.Common.{◌≡◌, ℕ, zero, suc, ◌+◌, ◌-◌, ◌<◌, ◌≤◌, min, Bool, true, false, cond, not, ◌&&◌, ltb, leb, List, [], ◌∷◌, ◌++◌, length, get_or, Some, None, Ok, Err, sym, refl, ap, ◌∙◌, ⊎_elim, add-one, arith}
+use Rattle.std.proofs.Common.{◌≡◌, ℕ, suc, ◌+◌, ◌-◌, ◌<◌, ◌≤◌, min, Bool, true, false, ◌&&◌, ltb, List, [], ◌∷◌, length, None, Ok, Err, sym, ap, ◌∙◌, ⊎_elim, add-one, arith}
 use Rattle.std.proofs.lemmas.List.{get_or_past}
-use Rattle.std.proofs.lemmas.Bool.{cond-true, cond-false, cases_lt, cases_Bool, lt-ltb, le-ltb, le-leb, lt-leb, ltb-true, ltb-false, and_parts, and_from}
+use Rattle.std.proofs.lemmas.Bool.{cond-true, cond-false, cases_lt, cases_Bool, lt-ltb, le-ltb, le-leb, lt-leb, and_parts, and_from}
 use Rattle.rules.specs.declared.rule.Rule.{Rule}
 use Rattle.rules.specs.declared.refusal.Refusal.{Refusal}
 use Rattle.rules.specs.declared.refusal.Refusal.TheVariants.{OffTheTable}
@@ -9,7 +9,7 @@ use Rattle.rules.specs.Kinds.{KindMeaning}
 use Rattle.rules.specs.Slots.{reading}
 use Rattle.shifting.specs.Chains.{scan, past, some_below, farthest, jump}
 use Rattle.shifting.specs.Slots.{Slot, at, usable, above, below, low, high, crossed, clashes, reach}
-use Rattle.shifting.proofs.Scans.{scan_first, scan_hit, scan_high, past_last, past_hit, past_high, some_below_from, some_below_hit}
+use Rattle.shifting.proofs.Scans.{scan_first, scan_hit, past_last, past_hit, past_high, some_below_from, some_below_hit}
 
 pub refused_none : (slots : List Slot) (slot : ℕ) (refusal : Refusal) → Err refusal ≡ reading slots slot → ◌≡◌ {A = Slot} None (at slots slot)
 refused_none slots slot refusal is =

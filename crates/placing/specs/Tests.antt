@@ -1,6 +1,5 @@
 -- What a slot is looked at for. Assumes nothing.
-use Rattle.std.specs.Prelude.{ℕ, Bool, true, false, Some, None, Option}
-use Rattle.rules.specs.declared.rule.Rule.{Rule}
+use Rattle.std.specs.Prelude.{Bool, true, false}
 use Rattle.rules.specs.Kinds.{KindMeaning}
 use Rattle.shifting.specs.Slots.{Slot, empty, above, below, level}
 use Rattle.shifting.specs.Machine.{has_number}

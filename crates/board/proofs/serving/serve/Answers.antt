@@ -1,5 +1,5 @@
 use Rattle.std.proofs.Common.{refl, ◌∙◌}
-use Rattle.board.specs.Shown.{fixed_by, seen}
+use Rattle.board.specs.Shown.{fixed_by}
 use Rattle.board.specs.Calls.{call_of}
 use Rattle.board.proofs.Serves.{serves_more, serves_ended}
 use Rattle.board.proofs.serving.serve.Goals as goal

@@ -1,6 +1,6 @@
-use Rattle.std.proofs.Common.{◌≡◌, ℕ, ◌<◌, Result, sym, refl, ap, ◌∙◌, subst, arith}
+use Rattle.std.proofs.Common.{ℕ, ◌<◌, Result, sym, refl, ap, ◌∙◌, subst, arith}
 use Rattle.rules.specs.declared.refusal.Refusal.{Refusal}
-use Rattle.shifting.specs.Machine.{step, complete, withdraw}
+use Rattle.shifting.specs.Machine.{complete}
 use Rattle.board.specs.declared.job.Job.{Job}
 use Rattle.board.specs.Shown.{fixed_by, seen, Takes, counting, ticket_of}
 use Rattle.board.proofs.Turned.{at_exit}

@@ -1,8 +1,8 @@
-use Rattle.std.proofs.Common.{◌≡◌, ◌+◌, List, [], ◌∷◌, ◌++◌, map, length, drop, is_ok, Some, Ok, vec_items, sym, ap, ◌∙◌, subst}
+use Rattle.std.proofs.Common.{◌≡◌, ◌+◌, [], ◌∷◌, ◌++◌, map, length, drop, is_ok, Some, Ok, vec_items, sym, ap, ◌∙◌, subst}
 use Rattle.std.proofs.ResultArms.{chosen}
 use Rattle.std.proofs.lemmas.List.{map_push}
 use Rattle.orders.specs.Layout.{front}
-use Rattle.orders.specs.Orders.{Entry, bytes_of, entry_of}
+use Rattle.orders.specs.Orders.{bytes_of, entry_of}
 use Rattle.order_reader.specs.Reading.{Gives, offset_after}
 use Rattle.order_reader.specs.File.{Reads, front_of}
 use Rattle.order_reader.proofs.Files.{Sofar, begins, one_more, done}

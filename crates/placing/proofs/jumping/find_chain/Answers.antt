@@ -1,4 +1,4 @@
-use Rattle.std.proofs.Common.{◌≡◌, ℕ, List, sym, ap, ◌∙◌, subst, arith}
+use Rattle.std.proofs.Common.{ℕ, List, sym, ap, ◌∙◌, subst, arith}
 use Rattle.rules.specs.declared.refusal.Refusal.TheVariants.{Crossed, NoSlot}
 use Rattle.shifting.specs.Chains.{jump}
 use Rattle.shifting.specs.Slots.{at, is_empty, usable, above, reach, low}

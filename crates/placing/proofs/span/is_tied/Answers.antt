@@ -1,5 +1,4 @@
-use Rattle.std.proofs.Common.{ℕ, ◌-◌, ltb, sym, ap, ◌∙◌, arith}
-use Rattle.shifting.specs.Chains.{scan}
+use Rattle.std.proofs.Common.{ℕ}
 use Rattle.shifting.specs.Slots.{at, usable, level}
 use Rattle.placing.proofs.Steps.{found_below}
 use Rattle.placing.proofs.span.is_tied.Goals as goal

@@ -1,7 +1,6 @@
-use Rattle.std.proofs.Common.{◌≡◌, sym, refl, ap, ◌∙◌, subst, arith}
-use Rattle.shifting.specs.Machine.{Answer, opened, counted, refused, add, step, complete, withdraw, drop_rule, change_action, look_up}
-use Rattle.board.specs.declared.ticket.Named.{Named}
-use Rattle.board.specs.Shown.{fixed_by, seen, Takes, counting, ticket_of}
+use Rattle.std.proofs.Common.{refl}
+use Rattle.shifting.specs.Machine.{change_action}
+use Rattle.board.specs.Shown.{fixed_by}
 use Rattle.board.proofs.Lawed.{lawfully}
 use Rattle.board.proofs.board.Board.change.Goals as goal
 

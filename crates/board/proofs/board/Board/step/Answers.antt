@@ -1,7 +1,6 @@
-use Rattle.std.proofs.Common.{◌≡◌, sym, refl, ap, ◌∙◌, subst, arith}
-use Rattle.shifting.specs.Machine.{Answer, opened, counted, refused, add, step, complete, withdraw, drop_rule, change_action, look_up}
-use Rattle.board.specs.declared.ticket.Named.{Named}
-use Rattle.board.specs.Shown.{fixed_by, seen, Takes, counting, ticket_of}
+use Rattle.std.proofs.Common.{refl}
+use Rattle.shifting.specs.Machine.{step}
+use Rattle.board.specs.Shown.{fixed_by, ticket_of}
 use Rattle.board.proofs.Lawed.{lawfully}
 use Rattle.board.proofs.board.Board.step.Goals as goal
 

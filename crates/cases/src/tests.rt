@@ -72,7 +72,7 @@ fn rule(word_a: u64, word_b: u64) -> Rule {
 struct NoMatch;
 
 impl Kind for NoMatch {
-    ghost meaning = { record { well_formed = λ a b. true; well_formed_subject = λ subject. true; matches = λ a b subject. false; meets = λ a b other-a other_b. false } };
+    ghost meaning = { record { well_formed = λ a b. true; well_formed_subject = λ subject. true; matches = λ a b subject. false; meets = λ a b other_a other_b. false } };
 
     ghost lawful = { Prim.search rules };
 

@@ -162,11 +162,11 @@ taken_meet (code ∷ codes) (other ∷ others) (symbol ∷ symbols) first second
 
 -- The law over words.
 
-shared : (a b other-a other_b : ℕ) → well_formed_dial a b ≡ true → well_formed_dial other-a other_b ≡ true → patterns_meet (places 16 a) (places 16 other-a) ≡ true → Shared dial_meaning a b other-a other_b
-shared a b other-a other_b formed other-formed meet =
+shared : (a b other_a other_b : ℕ) → well_formed_dial a b ≡ true → well_formed_dial other_a other_b ≡ true → patterns_meet (places 16 a) (places 16 other_a) ≡ true → Shared dial_meaning a b other_a other_b
+shared a b other_a other_b formed other-formed meet =
     let closes = (and_parts (b == 0) _ formed).1 in
     let other-closes = (and_parts (other_b == 0) _ other-formed).1 in
-    let common = found (places 16 a) (places 16 other-a) (codes_places 16 a) (codes_places 16 other-a) (length_places 16 a ∙ sym (length_places 16 other-a)) closes other-closes meet in
+    let common = found (places 16 a) (places 16 other_a) (codes_places 16 a) (codes_places 16 other_a) (length_places 16 a ∙ sym (length_places 16 other_a)) closes other-closes meet in
     let many : length common.symbols ≡ 16 = common.many ∙ length_places 16 a in
     let read : places 16 (word_of common.symbols) ≡ common.symbols = rw many at (places_word_of common.symbols common.fit) in
     let dials : dialled (word_of common.symbols) ≡ true = rw read common.closes in
@@ -181,13 +181,13 @@ shared a b other-a other_b formed other-formed meet =
 pub dial_laws : KindLaws dial_meaning
 dial_laws = record {
   only_formed_match = λ a b subject match. let parts = and_parts (well_formed_dial a b) _ match in (parts.0, (and_parts (dialled subject) _ parts.1).0);
-  only_formed_meet = λ a b other-a other_b meet. let parts = and_parts (well_formed_dial a b) _ meet in (parts.0, (and_parts (well_formed_dial other-a other_b) _ parts.1).0);
-  meets_exactly = λ a b other-a other_b word-a word-b word-other-a word-other-b formed other-formed. (
-    λ meet. shared a b other-a other_b formed other-formed (and_parts (well_formed_dial other-a other_b) _ (and_parts (well_formed_dial a b) _ meet).1).1,
+  only_formed_meet = λ a b other_a other_b meet. let parts = and_parts (well_formed_dial a b) _ meet in (parts.0, (and_parts (well_formed_dial other_a other_b) _ parts.1).0);
+  meets_exactly = λ a b other_a other_b word_a word_b word_other_a word_other_b formed other-formed. (
+    λ meet. shared a b other_a other_b formed other-formed (and_parts (well_formed_dial other_a other_b) _ (and_parts (well_formed_dial a b) _ meet).1).1,
     λ both.
         let subject = both.subject in
         let first = (and_parts (dialled subject) _ (and_parts (well_formed_dial a b) _ both.first).1).1 in
-        let second = (and_parts (dialled subject) _ (and_parts (well_formed_dial other-a other_b) _ both.second).1).1 in
-        and_from _ _ formed (and_from _ _ other-formed (taken_meet (places 16 a) (places 16 other-a) (places 16 subject) first second)),
+        let second = (and_parts (dialled subject) _ (and_parts (well_formed_dial other_a other_b) _ both.second).1).1 in
+        and_from _ _ formed (and_from _ _ other-formed (taken_meet (places 16 a) (places 16 other_a) (places 16 subject) first second)),
   );
 }

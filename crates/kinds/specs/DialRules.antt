@@ -78,6 +78,6 @@ dial_meaning = record {
   well_formed = well_formed_dial;
   well_formed_subject = dialled;
   matches = λ a b subject. well_formed_dial a b && (dialled subject && pattern_takes (places 16 a) (places 16 subject));
-  meets = λ a b other-a other_b.
-      well_formed_dial a b && (well_formed_dial other-a other_b && patterns_meet (places 16 a) (places 16 other-a));
+  meets = λ a b other_a other_b.
+      well_formed_dial a b && (well_formed_dial other_a other_b && patterns_meet (places 16 a) (places 16 other_a));
 }

@@ -27,7 +27,7 @@ pub packet_laws : KindLaws packet_meaning
 packet_laws = record {
   only_formed_match = λ a b s match. (eq-eqb _ _ (covered_since s a b (eqb-true _ _ match)), refl);
   only_formed_meet = λ a b c d all. let rest = and_parts _ _ all in (rest.0, (and_parts _ _ rest.1).0);
-  meets_exactly = λ a b c d word-a word-b word-c word-d formed other-formed. (
+  meets_exactly = λ a b c d word_a word_b word_c word_d formed other-formed. (
     λ meet.
         let covers-a = eqb-true _ _ formed in
         let covers-c = eqb-true _ _ other-formed in
@@ -35,7 +35,7 @@ packet_laws = record {
         let turned : bit_and c (bit_and d b) ≡ bit_and a (bit_and d b) = rw (and_comm d b) (sym agree) in
         record {
           subject = bit_or a c;
-          word = or_lt 64 a c word-a word-c;
+          word = or_lt 64 a c word_a word_c;
           formed = refl;
           first = eq-eqb _ _ (joined a b c d covers-a covers-c agree);
           second = eq-eqb _ _ (ap (λ x. bit_and x d) (or_comm a c) ∙ joined c d a b covers-c covers-a turned);

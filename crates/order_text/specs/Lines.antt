@@ -5,7 +5,6 @@ use Rattle.rules.specs.Refusals.{number}
 use Rattle.orders.specs.declared.order.Order.{Order}
 use Rattle.orders.specs.declared.order.Order.TheVariants.{Add, Drop, Change, LookUp, Step, Complete, Withdraw}
 use Rattle.orders.specs.Layout.{number_in, priority_in, new_action_in, other_action_in, word_a_in, word_b_in, subject_in}
-use Rattle.orders.specs.Orders.{place_of}
 use Rattle.order_reader.specs.declared.ending.Ending.{Ending}
 use Rattle.order_reader.specs.declared.ending.Ending.TheVariants.{End, Damaged}
 use Rattle.order_text.specs.Signs.{signs_of, digits_of}

@@ -30,7 +30,7 @@ pub data Answer : Type 0 where
   counted : ℕ → Answer
   -- a drop or a change
   done : Answer
-  -- a look_up: number and action, or none
+  -- a look-up: number and action, or none
   found : Option (ℕ × ℕ) → Answer
   refused : Refusal → Answer
 
@@ -121,7 +121,7 @@ abbrev pub changed : ℕ → ℕ → List Rule → List Rule
 changed number action [] = []
 changed number action (rule ∷ rules) = cond (rule.number == number) (with_action action rule) rule ∷ changed number action rules
 
--- the number and action that a look_up tells of a slot
+-- the number and action that a look-up tells of a slot
 abbrev pub told : Slot → Option (ℕ × ℕ)
 told None = None
 told (Some rule) = Some (rule.number, rule.action)

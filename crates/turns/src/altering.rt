@@ -1,4 +1,4 @@
-// Drop, change and look_up.
+// Drop, change and look-up.
 ghost use Rattle.std.specs.Prelude.{◌≡◌};
 ghost use Rattle.shifting.specs.Machine.{drop_rule, change_action, look_up, held, with_action, told};
 ghost use Rattle.shifting.specs.Slots.{at, first_match};

@@ -85,6 +85,12 @@ module _ (kind : KindMeaning) (slots : List Slot) (slot : ℕ) where
       let least : usable slots - 1 ≡ min (usable slots - 1) (scan clash (slot + 1) (usable slots - (slot + 1))) = omega arith in
       is ∙ rw (add-one slot) at least
 
+  pub reach_blocked : (later : ℕ) → slot < later → clash later ≡ true → reach kind slots slot ≤ later
+  reach_blocked later after found =
+      let first = scan_first clash (suc slot) (usable slots - suc slot) later (omega arith) found in
+      let least : min (usable slots - 1) (scan clash (suc slot) (usable slots - suc slot)) ≤ later = omega arith in
+      least
+
   pub reach_here : (later : ℕ) → later + 1 < usable slots → clash (later + 1) ≡ true → Clear later → later + 1 ≡ reach kind slots slot
   reach_here later before found clear =
       let here = scan_here clash (later + 1) (usable slots) before found in

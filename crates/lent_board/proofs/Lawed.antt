@@ -10,8 +10,8 @@ use Rattle.shifting.proofs.Serving.{Brings, sized_from, after_push, sized_push}
 use Rattle.shifting.proofs.Events.{run_started, run_push}
 use Rattle.shifting.proofs.Lawful.{law_of_runs}
 use Rattle.turns.specs.Shown.{Seen, Shows, Takes}
-use Rattle.lent_board.specs.Past.{Past, past, one_more, state_of, answer_to}
-use Rattle.lent_board.specs.Led.{Led, LedOn, Lawfully}
+use Rattle.lent_board.specs.Past.{past, one_more, answer_to}
+use Rattle.lent_board.specs.Led.{Led, Lawfully}
 
 module _ {Memory : Type 0} (fixed : Fixed) (stored : Memory → Event → Memory) where
   pub led_start : (slots : List Slot) (trace : ℕ) (memory : Memory) (board : Seen Memory) → Shows board (cleared fixed slots trace) → board.memory ≡ all_after stored memory (erases 0 (length slots))

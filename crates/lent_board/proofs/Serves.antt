@@ -1,7 +1,6 @@
 -- A caller that is served, from call to call. Assumes nothing.
-use Rattle.std.proofs.Common.{◌≡◌, ℕ, List, [], ◌∷◌, ◌++◌, length, sym, refl, ap, ◌∙◌, subst}
+use Rattle.std.proofs.Common.{◌≡◌, ℕ, List, [], ◌∷◌, ◌++◌, length}
 use Rattle.rules.specs.declared.event.Event.{Event}
-use Rattle.rules.specs.Kinds.{KindLaws}
 use Rattle.rules.specs.Slots.{all_after}
 use Rattle.shifting.specs.Slots.{Slot}
 use Rattle.shifting.specs.Machine.{Call, Fixed, cleared, erases}

@@ -1,5 +1,5 @@
 -- Calls and answers with real tickets, as the machine has them: a ticket is what it names. Assumes nothing.
-use Rattle.std.specs.Prelude.{ℕ, Some, None, Option}
+use Rattle.std.specs.Prelude.{Some, None, Option}
 use Rattle.shifting.specs.Machine.{Ticket, Call, Answer, add, step, complete, withdraw, drop_rule, change_action, look_up, opened, counted, done, found, refused}
 use Rattle.lent_board.specs.declared.calls.Call.{Call as RealCall}
 use Rattle.lent_board.specs.declared.calls.Call.TheVariants.{Add, Step, Complete, Withdraw, DropRule, ChangeAction, LookUp}

@@ -1,5 +1,5 @@
 -- Serving a caller: what it and the board know of the calls made so far. Assumes nothing.
-use Rattle.std.specs.Prelude.{◌≡◌, ℕ, ◌<◌, List, [], Some, None, Option}
+use Rattle.std.specs.Prelude.{◌≡◌, ℕ, ◌<◌, List, Some, None, Option}
 use Rattle.rules.specs.declared.device.SlotDevice.{Ghosts}
 use Rattle.rules.specs.Kinds.{KindMeaning}
 use Rattle.rules.specs.Slots.{all_after}

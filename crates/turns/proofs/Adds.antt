@@ -1,29 +1,28 @@
 -- An add on a board is an add of the machine. Assumes nothing.
-use Rattle.std.proofs.Common.{◌≡◌, ℕ, suc, ◌<◌, Bool, true, false, cond, not, ◌||◌, eqb, ltb, ◌⊎◌, List, [], ◌∷◌, length, take, Some, None, Ok, Err, Option, Result, sym, refl, ap, ◌∙◌, subst, inl, inr, ⊎_elim, arith}
-use Rattle.std.proofs.lemmas.Bool.{cases_Bool, both_ways, eqb-true, eq-eqb, ltb-true, or_cases}
+use Rattle.std.proofs.Common.{◌≡◌, ℕ, Bool, true, false, cond, not, ◌||◌, eqb, List, [], ◌∷◌, length, take, Some, None, Ok, Err, Option, Result, sym, refl, ap, ◌∙◌, subst, inl, inr, ⊎_elim}
+use Rattle.std.proofs.lemmas.Bool.{both_ways, eqb-true, eq-eqb, or_cases}
 use Rattle.rules.specs.declared.rule.Rule.{Rule}
 use Rattle.rules.specs.declared.event.Event.{Event}
 use Rattle.rules.specs.declared.refusal.Refusal.{Refusal}
 use Rattle.rules.specs.declared.refusal.Refusal.TheVariants.{Mangled, Known, Tied, Crossed, NoSlot}
 use Rattle.rules.specs.Kinds.{KindMeaning, KindLaws}
-use Rattle.shifting.specs.Chains.{scan, some_below}
+use Rattle.shifting.specs.Chains.{some_below}
 use Rattle.shifting.specs.Slots.{Slot, at, tied, crossed, no_slot, jump_chain}
-use Rattle.shifting.specs.Machine.{add, opened, State, Fixed, Turn, has_number, number_in, does, refuse, try_add, open_add, turn}
+use Rattle.shifting.specs.Machine.{add, opened, State, Fixed, Turn, has_number, number_in, refuse, try_add, open_add, turn}
 use Rattle.shifting.specs.Machine.{Job as OpenAdd}
 use Rattle.shifting.specs.Law.{In}
-use Rattle.shifting.proofs.Reading.{at_within, none_some}
+use Rattle.shifting.proofs.Reading.{at_within}
 use Rattle.shifting.proofs.Scans.{some_below_from, some_below_hit}
 use Rattle.shifting.proofs.Settled.{Settled, in_number}
 use Rattle.shifting.proofs.Sound.{Phase as Holding, Sound}
 use Rattle.placing.specs.Placing.{placing, Names}
-use Rattle.job.specs.declared.named.Named.{Named}
 use Rattle.job.specs.declared.job.Job.{Job}
 use Rattle.job.specs.declared.job.Phase.{Phase}
 use Rattle.job.specs.declared.job.JobEvent.TheVariants.{Opened}
 use Rattle.job.specs.declared.job.Request.TheVariants.{Alter}
 use Rattle.job.specs.Jobs.{phase_of, allowed, moved}
 use Rattle.job.specs.Jobs.{opened as job-opened}
-use Rattle.turns.specs.Shown.{Seen, seen, Shows, ShowsJob, ShowsOpen, Reached, Takes, opening, fitting}
+use Rattle.turns.specs.Shown.{seen, Shows, ShowsJob, Reached, Takes, opening, fitting}
 use Rattle.turns.proofs.Turned.{by, reached_sound, shown_by, refused_by, alter_by, alter_idle, when_free}
 
 -- while no add is open, the numbers in the slots are those of the rules in force

@@ -1,5 +1,5 @@
 -- A drop, a change and a look-up on a board are those of the machine. Assumes nothing.
-use Rattle.std.proofs.Common.{◌≡◌, ℕ, zero, suc, ◌<◌, ◌≤◌, Bool, true, false, cond, not, ◌||◌, eqb, ltb, ◌⊎◌, List, [], ◌∷◌, length, get_or, set, Some, None, Ok, Err, Option, Result, sym, refl, ap, ◌∙◌, subst, inl, inr, ⊎_elim, arith}
+use Rattle.std.proofs.Common.{◌≡◌, ℕ, zero, suc, ◌<◌, Bool, true, false, cond, not, ◌||◌, eqb, ltb, List, [], ◌∷◌, length, set, Some, None, Ok, Err, Option, Result, sym, refl, ap, ◌∙◌, subst, ⊎_elim, arith}
 use Rattle.std.proofs.lemmas.List.{get_or_past}
 use Rattle.std.proofs.lemmas.Bool.{cases_Bool, cases_lt, both_ways, cond-true, cond-false, lt-ltb, le-ltb, ltb-true, eqb-true, eqb-false, ne_eqb, or_parts, not-false}
 use Rattle.rules.specs.declared.rule.Rule.{Rule}
@@ -8,11 +8,11 @@ use Rattle.rules.specs.declared.event.Event.TheVariants.{Write, Erase}
 use Rattle.rules.specs.declared.refusal.Refusal.{Refusal}
 use Rattle.rules.specs.declared.refusal.Refusal.TheVariants.{Unknown, Mangled, OffTheTable, Misdialled}
 use Rattle.rules.specs.Kinds.{KindMeaning}
-use Rattle.rules.specs.Slots.{writing, erasing, answer, carried_out, first_place, place_within}
+use Rattle.rules.specs.Slots.{writing, erasing, answer, carried_out, first_place}
 use Rattle.rules.specs.Slots.{after as left_after, first_match as device-match}
 use Rattle.shifting.specs.Chains.{scan}
 use Rattle.shifting.specs.Slots.{Slot, at, first_match, slot_matches}
-use Rattle.shifting.specs.Machine.{drop_rule, change_action, look_up, done, found, refused, told, State, Fixed, Turn, held, has_number, with_action, refuse, place, when_standing, erase_rule, rewrite_rule, turn}
+use Rattle.shifting.specs.Machine.{drop_rule, change_action, look_up, done, found, told, State, Fixed, Turn, held, has_number, with_action, refuse, place, when_standing, erase_rule, rewrite_rule}
 use Rattle.shifting.proofs.Scans.{scan_hit}
 use Rattle.job.specs.declared.job.Job.{Job}
 use Rattle.job.specs.declared.job.Request.TheVariants.{Alter}

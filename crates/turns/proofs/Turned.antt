@@ -1,25 +1,22 @@
 -- How a call on a board is a turn of the machine. Assumes nothing.
-use Rattle.std.proofs.Common.{◌≡◌, ℕ, suc, ◌+◌, ◌-◌, ◌<◌, ◌≤◌, Bool, true, false, cond, not, ◌&&◌, ◌||◌, eqb, ltb, ◌⊎◌, List, [], ◌∷◌, ◌++◌, length, IsErrAnd, Some, None, Ok, Err, Option, Result, sym, refl, ap, ◌∙◌, subst, inl, inr, ⊎_elim, arith}
+use Rattle.std.proofs.Common.{◌≡◌, ℕ, ◌<◌, ◌≤◌, Bool, true, false, cond, ◌&&◌, eqb, ltb, List, [], ◌∷◌, ◌++◌, IsErrAnd, Some, None, Ok, Err, Option, Result, sym, refl, ap, ◌∙◌, subst, ⊎_elim, arith}
 use Rattle.std.proofs.lemmas.Bool.{cond-true, cond-false, cond_both, cases_Bool, both_ways, ltb-true, ltb-false}
 use Rattle.std.proofs.lemmas.Result.{err_from_is_err_and}
 use Rattle.rules.specs.declared.rule.Rule.{Rule}
 use Rattle.rules.specs.declared.event.Event.{Event}
 use Rattle.rules.specs.declared.refusal.Refusal.{Refusal}
 use Rattle.rules.specs.declared.refusal.Refusal.TheVariants.{Busy, Foreign, RunOut}
-use Rattle.rules.specs.Kinds.{KindMeaning, KindLaws}
+use Rattle.rules.specs.Kinds.{KindLaws}
 use Rattle.rules.specs.Slots.{all_after}
 use Rattle.shifting.specs.Slots.{Slot, all_carried_out}
-use Rattle.shifting.specs.Machine.{Ticket, Call, Answer, opened, counted, done, found, refused, State, Fixed, Turn, all_traced, does, refuse, when_idle, names, when_named, written, turn, after, cleared}
+use Rattle.shifting.specs.Machine.{Call, Answer, refused, State, Fixed, Turn, all_traced, does, refuse, when_idle, names, when_named, written, turn, cleared}
 use Rattle.shifting.specs.Machine.{Job as OpenAdd}
-use Rattle.std.specs.List.{AllByRecursion}
 use Rattle.shifting.proofs.Serving.{Brings, sized_from, after_push, sized_push}
-use Rattle.shifting.specs.Law.{Sized}
 use Rattle.shifting.proofs.Sound.{Sound, sound_after, cleared_sound}
 use Rattle.job.specs.declared.named.Named.{Named}
 use Rattle.job.specs.declared.job.Job.{Job}
 use Rattle.job.specs.declared.job.Phase.{Phase}
 use Rattle.job.specs.declared.job.Phase.TheVariants.{Idle, Shifting, Written}
-use Rattle.job.specs.declared.job.Request.{Request}
 use Rattle.job.specs.declared.job.Request.TheVariants.{Alter, Step, Close}
 use Rattle.job.specs.Jobs.{phase_of, naming, allowed}
 use Rattle.turns.specs.Shown.{Seen, Shows, ShowsOpen, ShowsJob, Reached, ticket_of}

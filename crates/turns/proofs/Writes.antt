@@ -1,23 +1,22 @@
 -- The writes of an open add on a board are those of the machine. Assumes nothing.
-use Rattle.std.proofs.Common.{◌≡◌, ℕ, zero, suc, ◌+◌, ◌-◌, ◌<◌, ◌≤◌, Bool, true, false, cond, not, ◌&&◌, eqb, ltb, ◌≢◌, ◌⊎◌, List, [], ◌∷◌, reverse, length, get_or, take, drop, set, Some, None, Ok, Err, Option, Result, sym, refl, ap, ◌∙◌, subst, inl, inr, ⊎_elim, add-one, arith}
-use Rattle.std.proofs.lemmas.List.{get_or_past, get_or-take, get_or-reverse, drop_more, drop_all, length-reverse, length-set}
-use Rattle.std.proofs.lemmas.Bool.{cases_Bool, cases_lt, both_ways, cond-true, cond-false, lt-ltb, le-ltb, ltb-true, ltb-false, eqb-true, eqb-false, eq-eqb, ne_eqb, and_parts}
+use Rattle.std.proofs.Common.{◌≡◌, ℕ, suc, ◌+◌, ◌-◌, ◌<◌, ◌≤◌, Bool, true, false, cond, ◌&&◌, ltb, ◌≢◌, List, [], ◌∷◌, reverse, length, get_or, take, drop, set, Some, None, Ok, Err, Option, Result, sym, refl, ap, ◌∙◌, subst, ⊎_elim, add-one, arith}
+use Rattle.std.proofs.lemmas.List.{get_or-take, get_or-reverse, drop_more, drop_all, length-reverse, length-set}
+use Rattle.std.proofs.lemmas.Bool.{cases_Bool, cases_lt, cond-true, cond-false, lt-ltb, le-ltb, ltb-true, ltb-false, eq-eqb, ne_eqb, and_parts}
 use Rattle.rules.specs.declared.rule.Rule.{Rule}
 use Rattle.rules.specs.declared.event.Event.{Event}
 use Rattle.rules.specs.declared.event.Event.TheVariants.{Write, Erase}
 use Rattle.rules.specs.declared.refusal.Refusal.{Refusal}
 use Rattle.rules.specs.declared.refusal.Refusal.TheVariants.{Foreign, RunOut}
-use Rattle.rules.specs.Kinds.{KindMeaning, KindLaws}
-use Rattle.rules.specs.Slots.{writing, erasing, answer, carried_out, all_after}
+use Rattle.rules.specs.Kinds.{KindLaws}
+use Rattle.rules.specs.Slots.{writing, erasing, carried_out, all_after}
 use Rattle.rules.specs.Slots.{after as left_after}
-use Rattle.shifting.specs.Slots.{Slot, at, usable, all_carried_out}
-use Rattle.shifting.specs.Machine.{Ticket, step, complete, withdraw, counted, State, Fixed, Turn, held, received, writes, unwritten, written, half_way, last_written, all_traced, names, when_named, refuse, make_one, make_all, take_back, turn}
+use Rattle.shifting.specs.Slots.{Slot, at, all_carried_out}
+use Rattle.shifting.specs.Machine.{step, complete, withdraw, counted, State, Fixed, Turn, held, received, writes, unwritten, written, half_way, last_written, all_traced, names, refuse, make_one, make_all, take_back, turn}
 use Rattle.shifting.specs.Machine.{Job as OpenAdd}
 use Rattle.shifting.proofs.Directions.{down}
 use Rattle.shifting.proofs.Reading.{set_here, some_same}
 use Rattle.shifting.proofs.Progress.{Start, Mid, Going, advance}
-use Rattle.shifting.proofs.Sound.{Sound, Phase as Holding, Opened}
-use Rattle.placing.specs.Placing.{Names}
+use Rattle.shifting.proofs.Sound.{Phase as Holding, Opened}
 use Rattle.job.specs.declared.named.Named.{Named}
 use Rattle.job.specs.declared.job.Job.{Job}
 use Rattle.job.specs.declared.job.Phase.{Phase}

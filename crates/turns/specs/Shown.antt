@@ -1,5 +1,5 @@
 -- What a board shows of the machine, and what it is for a call to do what the machine does. Assumes nothing.
-use Rattle.std.specs.Prelude.{◌≡◌, ℕ, ◌-◌, Bool, true, false, cond, not, ◌&&◌, ◌||◌, List, [], length, Some, None, Ok, Err, Option, Result, ◌==◌, nat_lt}
+use Rattle.std.specs.Prelude.{◌≡◌, ℕ, ◌-◌, true, false, cond, not, ◌||◌, List, length, Some, None, Ok, Err, Option, Result, ◌==◌, nat_lt}
 use Rattle.rules.specs.declared.rule.Rule.{Rule}
 use Rattle.rules.specs.declared.event.Event.{Event}
 use Rattle.rules.specs.declared.refusal.Refusal.{Refusal}
@@ -10,14 +10,14 @@ use Rattle.rules.specs.Slots.{erasing, all_after}
 use Rattle.rules.specs.Slots.{after as left_after}
 use Rattle.shifting.specs.Chains.{scan}
 use Rattle.shifting.specs.Slots.{Slot, at}
-use Rattle.shifting.specs.Machine.{Ticket, Call, Answer, opened, counted, done, found, refused, State, Fixed, Turn, cleared, held, has_number, turn, after}
+use Rattle.shifting.specs.Machine.{Ticket, Call, Answer, opened, counted, done, found, refused, State, Fixed, cleared, held, has_number, turn, after}
 use Rattle.shifting.specs.Machine.{Job as OpenAdd}
 use Rattle.std.specs.List.{AllByRecursion}
 use Rattle.shifting.specs.Law.{Sized}
 use Rattle.placing.specs.Placing.{Names}
 use Rattle.job.specs.declared.named.Named.{Named}
 use Rattle.job.specs.declared.job.Job.{Job}
-use Rattle.job.specs.Jobs.{next_slot, slot_before, slot_last, half_done}
+use Rattle.job.specs.Jobs.{slot_before, slot_last, half_done}
 
 -- what can be seen of a board: its device's slots and trace, the memory lent to the device, and its own record of the open add
 pub record Seen (Memory : Type 0) : Type 0 where

@@ -1,4 +1,4 @@
-use Rattle.std.proofs.Common.{Result, sym, refl, ap, ◌∙◌, subst}
+use Rattle.std.proofs.Common.{Result, sym, refl, subst}
 use Rattle.rules.specs.declared.refusal.Refusal.{Refusal}
 use Rattle.shifting.specs.Machine.{add}
 use Rattle.job.specs.declared.named.Named.{Named}

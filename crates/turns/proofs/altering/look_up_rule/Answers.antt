@@ -1,12 +1,7 @@
-use Rattle.std.proofs.Common.{◌≡◌, length, Result, sym, refl, ap, ◌∙◌, subst}
-use Rattle.rules.specs.declared.rule.Rule.{Rule}
-use Rattle.rules.specs.declared.refusal.Refusal.{Refusal}
-use Rattle.rules.specs.Slots.{writing, answer, carried_out, after}
-use Rattle.shifting.specs.Slots.{at}
-use Rattle.shifting.specs.Machine.{drop_rule, change_action, look_up, with_action, held, told}
-use Rattle.turns.specs.Shown.{fixed_by, seen, Takes, doing, finding}
-use Rattle.turns.proofs.Turned.{at_exit}
-use Rattle.turns.proofs.Drops.{drop_unknown, change_unknown, drop_done, change_done, look_up_misdialled, look_up_found}
+use Rattle.std.proofs.Common.{sym, ap, ◌∙◌}
+use Rattle.shifting.specs.Machine.{told}
+use Rattle.turns.specs.Shown.{fixed_by}
+use Rattle.turns.proofs.Drops.{look_up_found}
 use Rattle.turns.proofs.altering.look_up_rule.Goals as goal
 
 pub returns : goal.returns

@@ -1,6 +1,6 @@
-use Rattle.std.proofs.Common.{◌≡◌, ℕ, Result, sym, refl, ap, ◌∙◌, subst}
+use Rattle.std.proofs.Common.{ℕ, Result, sym, refl, subst}
 use Rattle.rules.specs.declared.refusal.Refusal.{Refusal}
-use Rattle.shifting.specs.Machine.{step, complete, withdraw}
+use Rattle.shifting.specs.Machine.{step}
 use Rattle.turns.specs.Shown.{fixed_by, seen, Takes, counting, ticket_of}
 use Rattle.turns.proofs.Turned.{at_exit}
 use Rattle.turns.proofs.Writes.{step_done, step_refused}

@@ -1,7 +1,6 @@
-use Rattle.std.proofs.Common.{refl, ap, ◌∙◌, arith}
-use Rattle.shifting.specs.Machine.{opened, add, step, complete, withdraw, drop_rule, change_action, look_up}
-use Rattle.job.specs.declared.named.Named.{Named}
-use Rattle.turns.specs.Shown.{fixed_by, ticket_of}
+use Rattle.std.proofs.Common.{refl}
+use Rattle.shifting.specs.Machine.{drop_rule}
+use Rattle.turns.specs.Shown.{fixed_by}
 use Rattle.lent_board.proofs.Lawed.{lawfully}
 use Rattle.lent_board.proofs.board.Board.drop.Goals as goal
 

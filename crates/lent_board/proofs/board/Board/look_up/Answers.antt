@@ -1,7 +1,5 @@
-use Rattle.std.proofs.Common.{refl, ap, ◌∙◌, arith}
-use Rattle.shifting.specs.Machine.{opened, add, step, complete, withdraw, drop_rule, change_action, look_up}
-use Rattle.job.specs.declared.named.Named.{Named}
-use Rattle.turns.specs.Shown.{fixed_by, ticket_of}
+use Rattle.shifting.specs.Machine.{look_up}
+use Rattle.turns.specs.Shown.{fixed_by}
 use Rattle.lent_board.proofs.Lawed.{lawfully}
 use Rattle.lent_board.proofs.board.Board.look_up.Goals as goal
 

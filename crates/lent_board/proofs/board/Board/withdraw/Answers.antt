@@ -1,6 +1,5 @@
-use Rattle.std.proofs.Common.{refl, ap, ◌∙◌, arith}
-use Rattle.shifting.specs.Machine.{opened, add, step, complete, withdraw, drop_rule, change_action, look_up}
-use Rattle.job.specs.declared.named.Named.{Named}
+use Rattle.std.proofs.Common.{refl}
+use Rattle.shifting.specs.Machine.{withdraw}
 use Rattle.turns.specs.Shown.{fixed_by, ticket_of}
 use Rattle.lent_board.proofs.Lawed.{lawfully}
 use Rattle.lent_board.proofs.board.Board.withdraw.Goals as goal

@@ -1,17 +1,15 @@
 -- A call that takes the machine's turn keeps the law. Assumes nothing.
-use Rattle.std.proofs.Common.{◌≡◌, ℕ, Bool, true, false, cond, eqb, List, [], ◌∷◌, ◌++◌, length, Some, None, Option, sym, refl, ap, ◌∙◌, subst}
+use Rattle.std.proofs.Common.{◌≡◌, ℕ, Bool, true, false, cond, eqb, [], ◌∷◌, ◌++◌, length, Some, None, Option, sym, refl, ap, ◌∙◌, subst}
 use Rattle.rules.specs.declared.rule.Rule.{Rule}
 use Rattle.rules.specs.declared.event.Event.{Event}
 use Rattle.rules.specs.Kinds.{KindLaws}
 use Rattle.rules.specs.Slots.{all_after}
-use Rattle.shifting.specs.Slots.{Slot}
 use Rattle.shifting.specs.Machine.{Ticket, Call, add, step, complete, withdraw, drop_rule, change_action, look_up, Fixed, cleared, erases, turn, after}
 use Rattle.shifting.specs.Law.{Sized, Worded}
 use Rattle.shifting.proofs.Serving.{sized_from, after_push, sized_push}
 use Rattle.shifting.proofs.Events.{run_started, run_push}
 use Rattle.shifting.proofs.Lawful.{law_of_runs}
 use Rattle.turns.specs.Shown.{Seen, Shows, ticket_of}
-use Rattle.lent_board.specs.Past.{past}
 use Rattle.c_interface.specs.declared.forms.CallRecord.{CallRecord}
 use Rattle.c_interface.specs.declared.forms.AnswerRecord.{AnswerRecord}
 use Rattle.c_interface.specs.Crossing.{call_of, Tells, Obeys, Opens}

@@ -10,8 +10,8 @@ use Rattle.rules.specs.Refusals.{number}
 use Rattle.rules.specs.Slots.{untraced, all_after}
 use Rattle.kinds.specs.DialRules.{dial_meaning}
 use Rattle.kinds.specs.PacketRules.{packet_meaning}
-use Rattle.record_bank.specs.Records.{bank_slots, record_changed}
-use Rattle.chip_image.specs.Chip.{chip_slots, chip_changed}
+use Rattle.record_bank.specs.Records.{bank_slots}
+use Rattle.chip_image.specs.Chip.{chip_slots}
 use Rattle.shifting.specs.Machine.{Ticket, Call, add, step, complete, withdraw, drop_rule, change_action, look_up}
 use Rattle.shifting.specs.Machine.{Answer, opened, counted, done, found, refused, Fixed, State, turn}
 use Rattle.shifting.specs.Slots.{Slot}

@@ -1,19 +1,24 @@
 // A ticket is what an add gives: it must be given back, by a complete or by a withdraw.
-ghost use Rattle.std.specs.Prelude.{◌≡◌};
+ghost use Rattle.std.specs.Prelude.{◌≡◌, true};
 
 use job::Named;
 
 // Only a board makes one, and it cannot be copied.
 pub struct Ticket {
     named: Named,
+    // set when a board takes the ticket back, and told by no contract
+    given_back: bool,
 }
 
-// Nobody can meet what this requires, and that is the point: whoever lets a ticket fall is refused.
+// Only a board can show what this requires, and that is the point: whoever else lets a ticket fall is refused.
 impl Drop for Ticket {
     fn drop(self)
-        requires { ⊥ }
+        requires { self.given_back ≡ true }
     {
-        let Ticket { named: _ } = self;
+        let Ticket {
+            named: _,
+            given_back: _,
+        } = self;
     }
 }
 
@@ -21,7 +26,10 @@ impl Ticket {
     pub(crate) fn of(named: Named) -> Ticket
         ensures { result.named ≡ named }
     {
-        Ticket { named }
+        Ticket {
+            named,
+            given_back: false,
+        }
     }
 
     pub fn named(&self) -> Named
@@ -31,7 +39,7 @@ impl Ticket {
     }
 
     // A board takes its ticket back.
-    pub(crate) fn spend(self) {
-        let Ticket { named: _ } = self;
+    pub(crate) fn spend(mut self) {
+        self.given_back = true;
     }
 }

@@ -9,7 +9,8 @@ use crate::clash::{farthest_of, reach_of};
 use crate::reading::usable_slots;
 use crate::scanning::first_passing;
 use crate::slot_test::SlotTest;
-use crate::span::{is_crossed, is_full, is_tied, span};
+use crate::span::{is_crossed, is_full};
+use crate::survey::look_over;
 use rules::{Refusal, Rule, SlotDevice};
 
 // The chain that starts between two slots, at most one turn for each usable slot.
@@ -40,10 +41,11 @@ pub fn find_chain<D: SlotDevice>(device: &D, new: Rule, chain: &mut Chain) -> Re
     ensures answer { result ≡ placing D.Kind.Kind.meaning (D.SlotDevice.slots device.now) new }
     ensures chain { result ≡ Ok tt → Names chain.new (jump_chain D.Kind.Kind.meaning (D.SlotDevice.slots device.now) new) }
 {
-    if is_tied(device, new) {
+    let survey = look_over(device, new);
+    if survey.is_tied() {
         return Err(Refusal::Tied);
     }
-    let (from, to) = span(device, new);
+    let (from, to) = survey.span();
     if is_crossed(from, to) {
         return Err(Refusal::Crossed);
     }

@@ -8,9 +8,12 @@ mod reading;
 mod scanning;
 mod slot_test;
 mod span;
+mod standing;
+mod survey;
 
 pub use chain::Chain;
 pub use jumping::find_chain;
 pub use reading::{slot_at, usable_slots};
-pub use scanning::first_passing;
+pub use scanning::{first_passing, past_last_passing};
 pub use slot_test::SlotTest;
+pub use span::{is_tied, span as span_of};

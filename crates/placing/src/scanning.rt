@@ -23,7 +23,7 @@ pub fn first_passing<D: SlotDevice>(device: &D, test: SlotTest, low: u16, end: u
 }
 
 // One past the last slot before `end` that passes, or 0.
-pub(crate) fn past_last_passing<D: SlotDevice>(device: &D, test: SlotTest, end: u16) -> u16
+pub fn past_last_passing<D: SlotDevice>(device: &D, test: SlotTest, end: u16) -> u16
     ensures { result ≡ past (λ i. passes D.Kind.Kind.meaning test (at (D.SlotDevice.slots device.now) i)) end }
 {
     let mut slot = end;

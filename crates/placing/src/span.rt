@@ -16,7 +16,7 @@ pub(crate) fn last_of(count: u16) -> u16
 }
 
 // The slots between which a new rule may go, both included.
-pub(crate) fn span<D: SlotDevice>(device: &D, new: Rule) -> (u16, u16)
+pub fn span<D: SlotDevice>(device: &D, new: Rule) -> (u16, u16)
     ensures low { result.0 ≡ low D.Kind.Kind.meaning (D.SlotDevice.slots device.now) new }
     ensures high { result.1 ≡ high D.Kind.Kind.meaning (D.SlotDevice.slots device.now) new }
 {
@@ -28,7 +28,7 @@ pub(crate) fn span<D: SlotDevice>(device: &D, new: Rule) -> (u16, u16)
     (from, to)
 }
 
-pub(crate) fn is_tied<D: SlotDevice>(device: &D, new: Rule) -> bool
+pub fn is_tied<D: SlotDevice>(device: &D, new: Rule) -> bool
     ensures { result ≡ tied D.Kind.Kind.meaning (D.SlotDevice.slots device.now) new }
 {
     let count = usable_slots(device);

@@ -1,6 +1,6 @@
 -- An add on a board is an add of the machine. Assumes nothing.
-use Rattle.std.proofs.Common.{◌≡◌, ℕ, Bool, true, false, cond, not, ◌||◌, eqb, List, [], ◌∷◌, length, take, Some, None, Ok, Err, Option, Result, sym, refl, ap, ◌∙◌, subst, inl, inr, ⊎_elim}
-use Rattle.std.proofs.lemmas.Bool.{both_ways, eqb-true, eq-eqb, or_cases}
+use Rattle.std.proofs.Common.{◌≡◌, ℕ, Bool, true, false, cond, not, ◌||◌, eqb, List, [], length, take, None, Ok, Err, Option, Result, sym, refl, ap, ◌∙◌, subst}
+use Rattle.std.proofs.lemmas.Bool.{eq-eqb}
 use Rattle.rules.specs.declared.rule.Rule.{Rule}
 use Rattle.rules.specs.declared.refusal.Refusal.{Refusal}
 use Rattle.rules.specs.declared.refusal.Refusal.TheVariants.{Mangled, Known, Tied, Crossed, NoSlot}
@@ -9,11 +9,11 @@ use Rattle.shifting.specs.Chains.{some_below}
 use Rattle.shifting.specs.Slots.{Slot, at, tied, crossed, no_slot, jump_chain}
 use Rattle.shifting.specs.Machine.{add, opened, State, Fixed, Turn, has_number, number_in, refuse, try_add, open_add, turn}
 use Rattle.shifting.specs.Machine.{Job as OpenAdd}
-use Rattle.shifting.specs.Law.{In}
 use Rattle.shifting.proofs.Reading.{at_within}
 use Rattle.shifting.proofs.Scans.{some_below_from, some_below_hit}
 use Rattle.shifting.proofs.Settled.{Settled, in_number}
-use Rattle.shifting.proofs.Sound.{Phase as Holding, Sound}
+use Rattle.shifting.proofs.Serving.{number_rule}
+use Rattle.shifting.proofs.Sound.{Phase as Holding, Sound, found_number}
 use Rattle.placing.specs.Placing.{placing, Names}
 use Rattle.board.specs.declared.job.Job.{Job}
 use Rattle.board.specs.declared.job.Phase.{Phase}
@@ -26,18 +26,6 @@ use Rattle.board.proofs.Turned.{by, reached_sound, shown_by, refused_by, alter_b
 
 -- while no add is open, the numbers in the slots are those of the rules in force
 
-number_in_rule : (number : ℕ) (rules : List Rule) → number_in number rules ≡ true → (rule : Rule) × In rule rules × (rule.number ≡ number)
-number_in_rule number [] is = absurd (both_ways false refl is)
-number_in_rule number (rule ∷ rules) is =
-    ⊎_elim
-    (λ here. (rule, inl refl, eqb-true rule.number number here))
-    (λ later. let found = number_in_rule number rules later in (found.0, inr found.1, found.2))
-    (or_cases (eqb rule.number number) (number_in number rules) is)
-
-holds_number : (slot : Slot) (number : ℕ) → has_number number slot ≡ true → (rule : Rule) × (slot ≡ Some rule) × (rule.number ≡ number)
-holds_number None number is = absurd (both_ways false refl is)
-holds_number (Some rule) number is = (rule, refl, eqb-true rule.number number is)
-
 same_bools : (a b : Bool) → (a ≡ true → b ≡ true) → (b ≡ true → a ≡ true) → a ≡ b
 same_bools true b to from = sym (to refl)
 same_bools false true to from = from refl
@@ -49,12 +37,12 @@ numbers_same kind slots rules number settled =
     let holds = λ (i : ℕ). has_number number (at slots i) in
     same_bools (number_in number rules) (some_below holds (length slots))
     (λ is.
-    let found = number_in_rule number rules is in
+    let found = number_rule number rules is in
     let stand = settled.stocked.stands found.0 found.1 in
     some_below_from holds (length slots) stand.0 (at_within slots stand.0 found.0 stand.1) (ap (has_number number) stand.1 ∙ eq-eqb found.0.number number found.2))
     (λ is.
     let place = some_below_hit holds (length slots) is in
-    let rule = holds_number (at slots place.0) number place.2 in
+    let rule = found_number (at slots place.0) number place.2 in
     ap (λ (n : ℕ). number_in n rules) (sym rule.2) ∙ in_number rule.0 rules (settled.stocked.only place.0 rule.0 rule.1))
 
 module _ (fixed : Fixed) (state : State) where

@@ -6,21 +6,20 @@ use Rattle.rules.specs.Kinds.{KindLaws}
 use Rattle.rules.specs.Slots.{erasing}
 use Rattle.rules.specs.Slots.{after as left_after}
 use Rattle.shifting.specs.Machine.{Call, Answer, Fixed, cleared, erases, after}
-use Rattle.shifting.proofs.Serving.{Brings, sized_from}
+use Rattle.shifting.proofs.Serving.{Brings, sized_from, after_push, sized_push}
 use Rattle.shifting.proofs.Lawful.{law_of_runs}
 use Rattle.board.specs.Shown.{Seen, Shows, Takes}
 use Rattle.board.specs.Led.{Lawfully}
-use Rattle.board.proofs.Turned.{after_more, sized_more}
 use Rattle.board.proofs.Drops.{erasing_ok}
 
 pub lawfully : (fixed : Fixed) → KindLaws fixed.kind → (call : Call) (answer : Answer) (before behind : Seen) → Brings call → Takes fixed call answer before behind → Lawfully fixed call answer before behind
 lawfully fixed laws call answer before behind one takes slots trace calls led =
     let start = cleared fixed slots trace in
-    let sized = sized_more calls call led.sized (sized_from call one) in
+    let sized = sized_push calls call led.sized (sized_from call one) in
     let taken = takes (after fixed start calls) (record { slots = slots; trace = trace; calls = calls; sized = led.sized; is = refl }) led.shows in
     record {
       answered = taken.0;
-      led = record { sized = sized; shows = subst (Shows behind) (sym (after_more fixed calls start call)) taken.1 };
+      led = record { sized = sized; shows = subst (Shows behind) (sym (after_push fixed calls start call)) taken.1 };
       law = law_of_runs fixed laws slots trace (calls ++ call ∷ []) sized;
     }
 

@@ -6,11 +6,11 @@ use Rattle.shifting.specs.Machine.{Call, Fixed, cleared, after}
 use Rattle.std.specs.List.{AllByRecursion}
 use Rattle.shifting.specs.Law.{Sized}
 use Rattle.shifting.proofs.Lawful.{law_of_runs}
+use Rattle.shifting.proofs.Serving.{after_push, sized_push}
 use Rattle.board.specs.Shown.{Seen, Shows, Reached, Takes}
 use Rattle.board.specs.declared.calls.Answer.{Answer as RealAnswer}
 use Rattle.board.specs.Calls.{answer_of, returned, goes_back}
 use Rattle.board.specs.Serving.{Past, past, Between, Waiting, Answers, one_more, Served}
-use Rattle.board.proofs.Turned.{after_more, sized_more}
 
 -- the calls so far, of which the caller knows, and the board that they led to
 pub record Serving {C : Type 0} (holds : Between C) (fixed : Fixed) (slots : List Slot) (trace : ℕ) (caller : C) (board : Seen) : Type 0 where
@@ -42,8 +42,8 @@ module _ {C : Type 0} (holds : Between C) (fixed : Fixed) where
       let taken = takes (after fixed start calls) (reached_so fixed slots trace calls on.sized) on.shows in
       record {
         calls = calls ++ call ∷ [];
-        sized = sized_more calls call on.sized sized;
-        shows = subst (Shows behind) (sym (after_more fixed calls start call)) taken.1;
+        sized = sized_push calls call on.sized sized;
+        shows = subst (Shows behind) (sym (after_push fixed calls start call)) taken.1;
         held = hears (past fixed slots trace calls) call (asks (past fixed slots trace calls) on.held) (record { answered = taken.0; back = back });
       }
 

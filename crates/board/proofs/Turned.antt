@@ -8,11 +8,9 @@ use Rattle.rules.specs.declared.refusal.Refusal.{Refusal}
 use Rattle.rules.specs.declared.refusal.Refusal.TheVariants.{Busy, Foreign, RunOut}
 use Rattle.rules.specs.Kinds.{KindLaws}
 use Rattle.shifting.specs.Slots.{Slot, all_carried_out}
-use Rattle.shifting.specs.Machine.{Call, Answer, refused, State, Fixed, Turn, all_traced, does, refuse, when_idle, names, when_named, written, turn, after, cleared}
+use Rattle.shifting.specs.Machine.{Call, Answer, refused, State, Fixed, Turn, all_traced, does, refuse, when_idle, names, when_named, written, turn, cleared}
 use Rattle.shifting.specs.Machine.{Job as OpenAdd}
-use Rattle.std.specs.List.{AllByRecursion}
-use Rattle.shifting.proofs.Serving.{Brings, sized_from}
-use Rattle.shifting.specs.Law.{Sized}
+use Rattle.shifting.proofs.Serving.{Brings, sized_from, after_push, sized_push}
 use Rattle.shifting.proofs.Sound.{Sound, sound_after, cleared_sound}
 use Rattle.board.specs.declared.ticket.Named.{Named}
 use Rattle.board.specs.declared.job.Job.{Job}
@@ -38,22 +36,14 @@ abbrev pub by : Fixed → State → Allowed → Turn → Turn
 by fixed state (Ok nothing) made = made
 by fixed state (Err refusal) made = refuse fixed state refusal
 
-pub after_more : (fixed : Fixed) (calls : List Call) (state : State) (call : Call) → after fixed state (calls ++ call ∷ []) ≡ (turn fixed (after fixed state calls) call).next
-after_more fixed [] state call = refl
-after_more fixed (first ∷ calls) state call = after_more fixed calls (turn fixed state first).next call
-
-pub sized_more : (calls : List Call) (call : Call) → AllByRecursion Sized calls → Sized call → AllByRecursion Sized (calls ++ call ∷ [])
-sized_more [] call sized one = (one, tt)
-sized_more (first ∷ calls) call sized one = (sized.0, sized_more calls call sized.1 one)
-
 pub reached_next : (fixed : Fixed) (state : State) (call : Call) → Brings call → Reached fixed state → Reached fixed (turn fixed state call).next
 reached_next fixed state call one reached =
     record {
       slots = reached.slots;
       trace = reached.trace;
       calls = reached.calls ++ call ∷ [];
-      sized = sized_more reached.calls call reached.sized (sized_from call one);
-      is = ap (λ (s : State). (turn fixed s call).next) reached.is ∙ sym (after_more fixed reached.calls (cleared fixed reached.slots reached.trace) call);
+      sized = sized_push reached.calls call reached.sized (sized_from call one);
+      is = ap (λ (s : State). (turn fixed s call).next) reached.is ∙ sym (after_push fixed reached.calls (cleared fixed reached.slots reached.trace) call);
     }
 
 module _ (fixed : Fixed) (laws : KindLaws fixed.kind) where

@@ -1,5 +1,5 @@
 // A ticket is what an add gives: it must be given back, by a complete or by a withdraw.
-ghost use Rattle.std.specs.Prelude.{◌≡◌, true};
+ghost use Rattle.std.specs.Prelude.{◌≡◌, true, false};
 
 // What a ticket names: the board, the number of the rule, and the length of its chain.
 #[derive(Clone, Copy)]
@@ -30,7 +30,8 @@ impl Drop for Ticket {
 
 impl Ticket {
     pub(crate) fn of(named: Named) -> Ticket
-        ensures { result.named ≡ named }
+        ensures named { result.named ≡ named }
+        ensures unspent { result.given_back ≡ false }
     {
         Ticket {
             named,

@@ -12,7 +12,8 @@ use Rattle.order_run.specs.Calling.{named, Good, Free, held_with, in_hand, kept,
 use Rattle.orders.specs.declared.order.Order.{Order}
 use Rattle.orders.specs.declared.order.Order.TheVariants as orders
 use Rattle.orders.specs.Orders.{letter_of}
-use Rattle.order_run.proofs.Tickets.{Opens, opens, good_after, withdrawn, after_more}
+use Rattle.shifting.proofs.Serving.{after_push}
+use Rattle.order_run.proofs.Tickets.{Opens, opens, good_after, withdrawn}
 use Rattle.lent_board.specs.Serving.{Past, state_of, answer_to, one_more, Answers}
 
 abbrev is_some : {T : Type 0} → Option T → ℕ
@@ -121,7 +122,7 @@ pub heard_good : (before : Past) (call : Call) (answer : RealAnswer) (hand hand'
 heard_good before call answer hand hand' good answers is =
     let fixed = before.fixed in
     subst (Good fixed (state_of (one_more before call))) (sym (is ∙ ap (ticket_after (named hand) call) answers.answered))
-    (subst (λ state. Good fixed state (ticket_after (named hand) call (answer_to before call))) (sym (after_more fixed before.calls (start_of before) call))
+    (subst (λ state. Good fixed state (ticket_after (named hand) call (answer_to before call))) (sym (after_push fixed before.calls (start_of before) call))
     (good_after fixed (state_of before) call (named hand) good))
 
 -- the withdraw at the end leaves nothing in hand

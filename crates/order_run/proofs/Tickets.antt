@@ -1,18 +1,14 @@
 -- A ticket that names the open add goes on to name it until it is given back. Assumes nothing.
-use Rattle.std.proofs.Common.{◌≡◌, suc, Bool, true, cond, not, ◌||◌, eqb, ltb, List, [], ◌∷◌, ◌++◌, length, Some, None, Option, sym, refl, subst}
+use Rattle.std.proofs.Common.{◌≡◌, suc, Bool, true, cond, not, ◌||◌, eqb, ltb, length, Some, None, Option, sym, refl, subst}
 use Rattle.std.proofs.lemmas.Bool.{cond-true, cond_both, eq-eqb, and_from}
 use Rattle.rules.specs.declared.rule.Rule.{Rule}
 use Rattle.rules.specs.declared.refusal.Refusal.TheVariants.{Busy, RunOut, Foreign, Unknown}
 use Rattle.shifting.specs.Slots.{tied, crossed, no_slot, jump_chain}
-use Rattle.shifting.specs.Machine.{Ticket, Call, add, step, complete, withdraw, drop_rule, change_action, look_up, Answer, opened, counted, done, found, refused, Job, State, Fixed, Turn, turn, after, refuse, when_idle, when_named, names, number_in, open_add, try_add, make_one, make_all, take_back, when_standing, erase_rule, rewrite_rule, written, place}
+use Rattle.shifting.specs.Machine.{Ticket, Call, add, step, complete, withdraw, drop_rule, change_action, look_up, Answer, opened, counted, done, found, refused, Job, State, Fixed, Turn, turn, refuse, when_idle, when_named, names, number_in, open_add, try_add, make_one, make_all, take_back, when_standing, erase_rule, rewrite_rule, written, place}
 use Rattle.order_run.specs.Running.{ticket_after, opened_or}
 use Rattle.lent_board.specs.Calls.{on_refusal}
 use Rattle.order_run.specs.Calling.{Good, held_with, named}
 use Rattle.lent_board.specs.declared.ticket.Ticket.{Ticket as RealTicket}
-
-pub after_more : (fixed : Fixed) (calls : List Call) (state : State) (call : Call) → after fixed state (calls ++ call ∷ []) ≡ (turn fixed (after fixed state calls) call).next
-after_more fixed [] state call = refl
-after_more fixed (first ∷ calls) state call = after_more fixed calls (turn fixed state first).next call
 
 either : (P : Turn → Type 0) (b : Bool) (x y : Turn) → P x → P y → P (cond b x y)
 either P b x y p q = cond_both b x y P (λ _. p) (λ _. q)

@@ -52,7 +52,7 @@ last_written_is job some short =
 
 -- The tests of the machine by slots.
 
-number_rule : (number : ℕ) (rules : List Rule) → number_in number rules ≡ true → (rule : Rule) × In rule rules × (rule.number ≡ number)
+pub number_rule : (number : ℕ) (rules : List Rule) → number_in number rules ≡ true → (rule : Rule) × In rule rules × (rule.number ≡ number)
 number_rule number [] is = absurd (let z : ◌≡◌ {A = ℕ} 0 1 = cc in omega arith)
 number_rule number (first ∷ rules) is =
     ⊎_elim (λ here. (first, inl refl, eqb-true first.number number here))

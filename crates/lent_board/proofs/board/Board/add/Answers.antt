@@ -12,7 +12,7 @@ returns-in-Ok g c =
       law = lawfully fixed g.D.SlotDevice.stored g.met.D.Kind.Kind.lawful (add c.args.new) _ _ _ (omega arith, omega arith)
           (λ state reached shows.
           let taken = c.in-Ok.ensures state reached shows in
-          (ap (λ (named : Named). opened (ticket_of named)) c.of.ensures ∙ taken.0, taken.1, taken.2));
+          (ap (λ (named : Named). opened (ticket_of named)) c.of.ensures.named ∙ taken.0, taken.1, taken.2));
       same = record { number = refl; device = refl; lenders = refl };
     }
 

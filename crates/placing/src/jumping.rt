@@ -1,5 +1,5 @@
 // The jump rule: the chain of slots that makes room for a new rule.
-ghost use Rattle.std.specs.Prelude.{◌≡◌, ◌<◌, ◌≤◌, Ok};
+ghost use Rattle.std.specs.Prelude.{◌≡◌, ◌<◌, ◌≤◌, Ok, OnErr};
 ghost use Rattle.shifting.specs.Chains.{jump};
 ghost use Rattle.shifting.specs.Slots.{is_empty, usable, reach, jump_chain};
 ghost use Rattle.placing.specs.Placing.{placing, Names};
@@ -36,10 +36,11 @@ fn jump_from<D: SlotDevice>(device: &D, from: u16, to: u16, chain: &mut Chain)
     }
 }
 
-// The chain for a new rule, or why it has no place. The rule itself is not looked at: its words and number are its caller's care.
+// The chain for a new rule, or why it has no place; then the chain stays as it was. The rule itself is not looked at: its words and number are its caller's care.
 pub fn find_chain<D: SlotDevice>(device: &D, new: Rule, chain: &mut Chain) -> Result<(), Refusal>
     ensures answer { result ≡ placing D.Kind.Kind.meaning (D.SlotDevice.slots device.now) new }
     ensures chain { result ≡ Ok tt → Names chain.new (jump_chain D.Kind.Kind.meaning (D.SlotDevice.slots device.now) new) }
+    ensures kept { OnErr result (chain.new ≡ chain.old) }
 {
     let survey = look_over(device, new);
     if survey.is_tied() {

@@ -1,5 +1,5 @@
 -- How a call on a board is a turn of the machine. Assumes nothing.
-use Rattle.std.proofs.Common.{◌≡◌, ℕ, ◌<◌, ◌≤◌, Bool, true, false, cond, ◌&&◌, eqb, ltb, List, [], ◌∷◌, ◌++◌, IsErrAnd, Some, None, Ok, Err, Option, Result, sym, refl, ap, ◌∙◌, subst, ⊎_elim, arith}
+use Rattle.std.proofs.Common.{◌≡◌, ℕ, ◌<◌, ◌≤◌, Bool, true, false, cond, ◌&&◌, eqb, ltb, List, [], ◌∷◌, ◌++◌, IsErrAnd, OnErr, Some, None, Ok, Err, Option, Result, sym, refl, ap, ◌∙◌, subst, ⊎_elim, arith}
 use Rattle.std.proofs.lemmas.Bool.{cond-true, cond-false, cond_both, cases_Bool, both_ways, ltb-true, ltb-false}
 use Rattle.std.proofs.lemmas.Result.{err_from_is_err_and}
 use Rattle.rules.specs.declared.rule.Rule.{Rule}
@@ -30,6 +30,10 @@ never_both same = absurd (let z : ◌≡◌ {A = ℕ} 0 1 = cc in omega arith)
 -- what the exit of a `?` returns
 pub at_exit : {X : Type 0} (r : Result X Refusal) (refusal : Refusal) → IsErrAnd r (λ e. e ≡ refusal) → r ≡ Err refusal
 at_exit r refusal exit = let parts = err_from_is_err_and r exit in parts.1 ∙ ap Err parts.2
+
+pub on_err : {X : Type 0} {P : Type 0} (r : Result X Refusal) → P → OnErr r P
+on_err (Ok a) p = tt
+on_err (Err refusal) p = p
 
 -- what the machine does where a test refuses, and where it does not
 abbrev pub by : Fixed → State → Allowed → Turn → Turn

@@ -1,5 +1,5 @@
 // Opening an add.
-ghost use Rattle.std.specs.Prelude.{◌≡◌, not, ◌||◌, ◌==◌};
+ghost use Rattle.std.specs.Prelude.{◌≡◌, not, ◌||◌, ◌==◌, OnErr};
 ghost use Rattle.shifting.specs.Machine.{add};
 ghost use Rattle.turns.specs.Shown.{Acts, opening, fitting};
 
@@ -34,7 +34,8 @@ pub fn open_add<D: SlotDevice>(
     job: &mut Job,
     new: Rule,
 ) -> Result<Named, Refusal>
-    ensures { Acts D.Kind.Kind.meaning D.SlotDevice number (add new) (opening result) device.now job.old device.now job.new }
+    ensures takes { Acts D.Kind.Kind.meaning D.SlotDevice number (add new) (opening result) device.now job.old device.now job.new }
+    ensures kept { OnErr result (job.new ≡ job.old) }
 {
     job.allows(number, Request::Alter)?;
     fits(device, new)?;

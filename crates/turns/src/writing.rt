@@ -1,5 +1,5 @@
 // Step, complete and withdraw: the writes of the open add.
-ghost use Rattle.std.specs.Prelude.{◌≡◌, length};
+ghost use Rattle.std.specs.Prelude.{◌≡◌, length, OnErr};
 ghost use Rattle.rules.specs.Slots.{writing, carried_out, after};
 ghost use Rattle.shifting.specs.Machine.{step, complete, withdraw};
 ghost use Rattle.job.specs.declared.job.JobEvent.TheVariants.{Wrote};
@@ -43,6 +43,7 @@ pub fn step_add<D: SlotDevice>(
     named: Named,
 ) -> Result<u16, Refusal>
     ensures takes { Acts D.Kind.Kind.meaning D.SlotDevice number (step (ticket_of named)) (counting result) device.old job.old device.new job.new }
+    ensures kept { OnErr result (job.new ≡ job.old) }
     ensures same { D.SlotDevice.lenders device.new ≡ D.SlotDevice.lenders device.old }
 {
     job.allows(number, Request::Step(named))?;
@@ -58,6 +59,7 @@ pub fn complete_add<D: SlotDevice>(
     named: Named,
 ) -> Result<u16, Refusal>
     ensures takes { Acts D.Kind.Kind.meaning D.SlotDevice number (complete (ticket_of named)) (counting result) device.old job.old device.new job.new }
+    ensures kept { OnErr result (job.new ≡ job.old) }
     ensures same { D.SlotDevice.lenders device.new ≡ D.SlotDevice.lenders device.old }
 {
     job.allows(number, Request::Close(named))?;
@@ -87,6 +89,7 @@ pub fn withdraw_add<D: SlotDevice>(
     named: Named,
 ) -> Result<u16, Refusal>
     ensures takes { Acts D.Kind.Kind.meaning D.SlotDevice number (withdraw (ticket_of named)) (counting result) device.old job.old device.new job.new }
+    ensures kept { OnErr result (job.new ≡ job.old) }
     ensures same { D.SlotDevice.lenders device.new ≡ D.SlotDevice.lenders device.old }
 {
     job.allows(number, Request::Close(named))?;

@@ -10,6 +10,7 @@ returns g c =
     let call = c.args.call in
     record {
       tells = c.take.ensures.tells;
+      kept = c.take.ensures.kept;
       law = obeys fixed g.D.SlotDevice.stored g.met.D.Kind.Kind.lawful (call_of call) c.take.result (shown g.D.SlotDevice c.args.device.now c.args.job.now) (shown g.D.SlotDevice c.take.new.device c.take.new.job) (sized_in call (omega arith, omega arith)) c.take.ensures.tells;
       same = c.take.ensures.same;
     }

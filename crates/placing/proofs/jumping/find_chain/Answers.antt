@@ -1,4 +1,4 @@
-use Rattle.std.proofs.Common.{ℕ, List, sym, ap, ◌∙◌, subst, arith}
+use Rattle.std.proofs.Common.{ℕ, List, sym, refl, ap, ◌∙◌, subst, arith}
 use Rattle.rules.specs.declared.refusal.Refusal.TheVariants.{Crossed, NoSlot}
 use Rattle.shifting.specs.Chains.{jump}
 use Rattle.shifting.specs.Slots.{at, is_empty, usable, above, reach, low}
@@ -19,6 +19,7 @@ returns-then-is_crossed g c =
     record {
       answer = placed_crossed g.D.Kind.Kind.meaning slots c.args.new untied _ _ from_is to_is (sym c.if-is_crossed.ensures);
       chain = never_placed Crossed;
+      kept = refl;
     }
 
 pub returns-then-is_full : goal.returns-then-is_full
@@ -32,6 +33,7 @@ returns-then-is_full g c =
     record {
       answer = placed_full g.D.Kind.Kind.meaning slots c.args.new untied _ _ from_is to_is (sym c.if-is_crossed.ensures) (sym c.if-is_full.ensures);
       chain = never_placed NoSlot;
+      kept = refl;
     }
 
 pub returns : goal.returns
@@ -49,6 +51,7 @@ returns g c =
           subst (λ (chain : List ℕ). Names c.jump_from.new.chain chain)
           (ap (λ (from : ℕ). jumped from c.span-from.result.1) from_is ∙ ap (jumped (low g.D.Kind.Kind.meaning slots c.args.new)) to_is)
           c.jump_from.ensures;
+      kept = tt;
     }
 
 pub jump_from-requires : goal.jump_from-requires

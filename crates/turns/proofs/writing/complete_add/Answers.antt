@@ -3,7 +3,7 @@ use Rattle.rules.specs.declared.refusal.Refusal.{Refusal}
 use Rattle.shifting.specs.Machine.{complete}
 use Rattle.job.specs.declared.job.Job.{Job}
 use Rattle.turns.specs.Shown.{fixed_by, seen, shown, Takes, counting, ticket_of}
-use Rattle.turns.proofs.Turned.{at_exit}
+use Rattle.turns.proofs.Turned.{at_exit, on_err}
 use Rattle.turns.proofs.Writes.{complete_done, complete_refused, on_start, on_more, close_busy, wrote_further}
 use Rattle.turns.proofs.writing.complete_add.Goals as goal
 
@@ -18,6 +18,7 @@ returns-in_err-allows g c =
     record {
       takes = subst (λ (r : Result ℕ Refusal). Takes fixed stored (complete (ticket_of c.args.named)) (counting r) (seen slots trace memory job) (seen slots trace memory job)) (sym (at_exit c.from_residual.result _ c.from_residual.ensures.1))
           (complete_refused fixed stored g.met.D.Kind.Kind.lawful (seen slots trace memory job) c.args.named _ c.in_err-allows.ensures);
+      kept = on_err c.from_residual.result refl;
       same = refl;
     }
 
@@ -57,4 +58,4 @@ returns g c =
     let stored = g.D.SlotDevice.stored in
     let start = shown g.D.SlotDevice c.args.device.now c.args.job.now in
     let before = shown g.D.SlotDevice c.loop-device.device c.loop-device.job in
-    record { takes = complete_done fixed stored g.met.D.Kind.Kind.lawful start before c.happens.new.self c.args.named _ c.in_ok-allows.ensures (c.loop-device.invariant.2 c.args.named) (omega arith) c.happens.ensures refl; same = c.loop-device.invariant.1 }
+    record { takes = complete_done fixed stored g.met.D.Kind.Kind.lawful start before c.happens.new.self c.args.named _ c.in_ok-allows.ensures (c.loop-device.invariant.2 c.args.named) (omega arith) c.happens.ensures refl; kept = tt; same = c.loop-device.invariant.1 }

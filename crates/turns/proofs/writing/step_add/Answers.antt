@@ -2,7 +2,7 @@ use Rattle.std.proofs.Common.{ℕ, Result, sym, refl, subst}
 use Rattle.rules.specs.declared.refusal.Refusal.{Refusal}
 use Rattle.shifting.specs.Machine.{step}
 use Rattle.turns.specs.Shown.{fixed_by, seen, Takes, counting, ticket_of}
-use Rattle.turns.proofs.Turned.{at_exit}
+use Rattle.turns.proofs.Turned.{at_exit, on_err}
 use Rattle.turns.proofs.Writes.{step_done, step_refused}
 use Rattle.turns.proofs.writing.step_add.Goals as goal
 
@@ -17,6 +17,7 @@ returns-in_err-allows g c =
     record {
       takes = subst (λ (r : Result ℕ Refusal). Takes fixed stored (step (ticket_of c.args.named)) (counting r) (seen slots trace memory job) (seen slots trace memory job)) (sym (at_exit c.from_residual.result _ c.from_residual.ensures.1))
           (step_refused fixed stored g.met.D.Kind.Kind.lawful (seen slots trace memory job) c.args.named _ c.in_err-allows.ensures);
+      kept = on_err c.from_residual.result refl;
       same = refl;
     }
 
@@ -31,5 +32,6 @@ returns g c =
     record {
       takes = step_done fixed stored g.met.D.Kind.Kind.lawful (seen slots trace memory job) _ c.args.named _ c.in_ok-allows.ensures
           (record { slots = c.write_next.ensures.slots; trace = c.write_next.ensures.trace; memory = c.write_next.ensures.memory; job = c.write_next.ensures.job }) c.left.ensures;
+      kept = tt;
       same = c.write_next.ensures.same;
     }

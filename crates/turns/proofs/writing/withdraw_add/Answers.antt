@@ -2,7 +2,7 @@ use Rattle.std.proofs.Common.{ℕ, Result, sym, refl, subst}
 use Rattle.rules.specs.declared.refusal.Refusal.{Refusal}
 use Rattle.shifting.specs.Machine.{withdraw}
 use Rattle.turns.specs.Shown.{fixed_by, seen, Takes, counting, ticket_of}
-use Rattle.turns.proofs.Turned.{at_exit}
+use Rattle.turns.proofs.Turned.{at_exit, on_err}
 use Rattle.turns.proofs.Writes.{withdraw_done, withdraw_refused}
 use Rattle.turns.proofs.writing.withdraw_add.Goals as goal
 
@@ -17,6 +17,7 @@ returns-in_err-allows g c =
     record {
       takes = subst (λ (r : Result ℕ Refusal). Takes fixed stored (withdraw (ticket_of c.args.named)) (counting r) (seen slots trace memory job) (seen slots trace memory job)) (sym (at_exit c.from_residual.result _ c.from_residual.ensures.1))
           (withdraw_refused fixed stored g.met.D.Kind.Kind.lawful (seen slots trace memory job) c.args.named _ c.in_err-allows.ensures);
+      kept = on_err c.from_residual.result refl;
       same = refl;
     }
 
@@ -28,4 +29,4 @@ returns g c =
     let stored = g.D.SlotDevice.stored in
     let memory = g.D.SlotDevice.memory c.args.device.now in
     let job = c.args.job.now in
-    record { takes = withdraw_done fixed stored g.met.D.Kind.Kind.lawful (seen slots trace memory job) _ _ _ _ c.args.named _ c.in_ok-allows.ensures c.in_force-told.ensures c.erase_half_way.ensures.slots c.erase_half_way.ensures.trace c.erase_half_way.ensures.memory c.happens.ensures; same = c.erase_half_way.ensures.same }
+    record { takes = withdraw_done fixed stored g.met.D.Kind.Kind.lawful (seen slots trace memory job) _ _ _ _ c.args.named _ c.in_ok-allows.ensures c.in_force-told.ensures c.erase_half_way.ensures.slots c.erase_half_way.ensures.trace c.erase_half_way.ensures.memory c.happens.ensures; kept = tt; same = c.erase_half_way.ensures.same }

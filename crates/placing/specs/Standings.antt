@@ -1,5 +1,5 @@
 -- How the rule in a slot stands to a new rule. Assumes nothing.
-use Rattle.std.specs.Prelude.{ℕ, Bool, true, false, cond, nat_lt}
+use Rattle.std.specs.Prelude.{Bool, true, false}
 use Rattle.placing.specs.declared.standing.Standing.{Standing}
 use Rattle.placing.specs.declared.standing.Standing.TheVariants.{Apart, Above, Below, Level}
 
@@ -20,7 +20,3 @@ is_level Apart = false
 is_level Above = false
 is_level Below = false
 is_level Level = true
-
--- of a meeting rule, by both priorities
-abbrev pub by_priority : (new other : ℕ) → Standing
-by_priority new other = cond (nat_lt new other) Above (cond (nat_lt other new) Below Level)

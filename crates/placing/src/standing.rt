@@ -1,7 +1,7 @@
 // How the rule in a slot stands to a new rule.
-ghost use Rattle.std.specs.Prelude.{◌≡◌, Some};
+ghost use Rattle.std.specs.Prelude.{◌≡◌, Some, ◌==◌, nat_lt};
 ghost use Rattle.shifting.specs.Slots.{above, below, level};
-ghost use Rattle.placing.specs.Standings.{is_above, is_below, is_level, by_priority};
+ghost use Rattle.placing.specs.Standings.{is_above, is_below, is_level};
 
 use rules::{Kind, Rule};
 
@@ -17,8 +17,11 @@ pub(crate) enum Standing {
     Level,
 }
 
+// How a meeting rule with this priority stands to one with that.
 fn by_priority(new: u16, other: u16) -> Standing
-    ensures { result ≡ by_priority new other }
+    ensures above { is_above result ≡ nat_lt new other }
+    ensures below { is_below result ≡ nat_lt other new }
+    ensures level { is_level result ≡ (other == new) }
 {
     if new < other {
         Standing::Above

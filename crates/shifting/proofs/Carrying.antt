@@ -2,16 +2,12 @@
 use Rattle.std.proofs.Common.{◌≡◌, ℕ, suc, ◌+◌, ◌-◌, ◌<◌, ◌≤◌, false, cond, List, [], ◌∷◌, ◌++◌, reverse, length, take, Some, Option, sym, refl, ap, ◌∙◌, subst, inl, inr, ⊎_elim, arith}
 use Rattle.std.proofs.lemmas.Bool.{cond_both, eqb-false}
 use Rattle.std.proofs.lemmas.List.{length-drop, length-reverse}
-use Rattle.rules.specs.declared.refusal.Refusal.{Refusal}
 use Rattle.rules.specs.declared.refusal.Refusal.TheVariants.{RunOut}
-use Rattle.shifting.specs.Machine.{Call, add, step, complete, withdraw, drop_rule, change_action, look_up, Ticket, counted, refused, Job, State, Fixed, Turn}
+use Rattle.shifting.specs.Machine.{Call, add, step, complete, withdraw, drop_rule, change_action, look_up, Ticket, counted, Job, State, Fixed, Turn}
 use Rattle.shifting.specs.Machine.{refuse, when_idle, make_one, make_all, take_back, written, writes, unwritten, turn, after}
 use Rattle.shifting.specs.Law.{TakesTicket, StaysOpen, CarriesThrough, writes_of, writes_made}
 use Rattle.shifting.proofs.Turns.{by_named, by_step}
 use Rattle.shifting.proofs.Sound.{length_writes}
-
-pub refused_counted : {X : Type 0} {refusal : Refusal} {n : ℕ} → refused refusal ≡ counted n → X
-refused_counted same = absurd (let z : ◌≡◌ {A = ℕ} 0 1 = cc in omega arith)
 
 module _ (fixed : Fixed) where
   -- the writes left are those of the chain's slots that are not written
@@ -75,10 +71,10 @@ module _ (fixed : Fixed) where
 
     last_step : (ticket : Ticket) → (turn fixed state (step ticket)).answer ≡ counted 0 → job.made + length (turn fixed state (step ticket)).events ≡ length job.chain
     last_step ticket =
-        by_named fixed state Ends ticket (λ one. cond (written one) (refuse fixed state RunOut) (make_one fixed state one)) (λ none. refused_counted none) state.job
+        by_named fixed state Ends ticket (λ one. cond (written one) (refuse fixed state RunOut) (make_one fixed state one)) (λ none. cc) state.job
         (λ one is.
         rw (same_open one is)
-        (by_step fixed state Ends job (λ none. refused_counted none)
+        (by_step fixed state Ends job (λ none. cc)
         (λ more none.
         let other = eqb-false job.made (length job.chain) more in
         let left : length job.chain - suc job.made ≡ 0 = cc in
@@ -89,7 +85,7 @@ module _ (fixed : Fixed) where
 
     last_complete : (ticket : Ticket) (n : ℕ) → (turn fixed state (complete ticket)).answer ≡ counted n → job.made + length (turn fixed state (complete ticket)).events ≡ length job.chain
     last_complete ticket n =
-        by_named fixed state Ends ticket (make_all fixed state) (λ same. refused_counted same) state.job
+        by_named fixed state Ends ticket (make_all fixed state) (λ same. cc) state.job
         (λ one is. rw (same_open one is) (λ _. omega (arith, length_left state job)))
       where
         Ends : Turn → Type 0

@@ -9,7 +9,7 @@ use Rattle.rules.specs.declared.refusal.Refusal.{Refusal}
 use Rattle.rules.specs.declared.refusal.Refusal.TheVariants.{RunOut}
 use Rattle.rules.specs.Kinds.{KindLaws}
 use Rattle.shifting.specs.Slots.{Slot, all_carried_out, jump_chain}
-use Rattle.shifting.specs.Machine.{Ticket, Call, add, step, complete, withdraw, drop_rule, change_action, look_up, opened, counted, done, refused, Job, State, Fixed, Turn}
+use Rattle.shifting.specs.Machine.{Ticket, Call, add, step, complete, withdraw, drop_rule, change_action, look_up, opened, counted, refused, Job, State, Fixed, Turn}
 use Rattle.shifting.specs.Machine.{refuse, when_idle, when_standing, erase_rule, rewrite_rule, try_add, make_one, make_all, take_back, written, turn, after, cleared}
 use Rattle.shifting.specs.Law.{Sized, LawOfRuns, Lawful, Announced, slots_at, rules_at, copies_at, copies}
 use Rattle.shifting.proofs.Settled.{Settled}
@@ -17,12 +17,9 @@ use Rattle.shifting.proofs.Progress.{Good}
 use Rattle.shifting.proofs.Answering.{first_match_answers, only_answer}
 use Rattle.shifting.proofs.Spans.{jump_shortest_chain}
 use Rattle.shifting.proofs.Sound.{Opened, Phase, Sound, phase_good, call_step, sound_after, cleared_sound}
-use Rattle.shifting.proofs.Carrying.{refused_counted, one_write, carried_through}
+use Rattle.shifting.proofs.Carrying.{one_write, carried_through}
 use Rattle.shifting.proofs.Refusing.{refuses_exactly, opens}
 use Rattle.shifting.proofs.Turns.{by_idle, by_named, by_standing, by_step, by_add, slots_by_events, trace_by_events}
-
-done_refused : {X : Type 0} {refusal : Refusal} → done ≡ refused refusal → X
-done_refused same = absurd (let z : ◌≡◌ {A = ℕ} 0 1 = cc in omega arith)
 
 module _ (fixed : Fixed) (laws : KindLaws fixed.kind) (state : State) (sound : Sound fixed laws state) where
   -- inside a call and at its end
@@ -87,13 +84,13 @@ module _ (fixed : Fixed) (laws : KindLaws fixed.kind) (state : State) (sound : S
   quiet (add new) why is = add_quiet new
   quiet (step ticket) why is =
       by_named fixed state Quiet ticket (λ job. cond (written job) (refuse fixed state RunOut) (make_one fixed state job)) (λ _ _. refl) state.job
-      (λ job _. by_step fixed state Quiet job (λ _ _. refl) (λ _ _ same. refused_counted (sym same))) why is
+      (λ job _. by_step fixed state Quiet job (λ _ _. refl) (λ _ _ same. cc)) why is
   quiet (complete ticket) why is =
-      by_named fixed state Quiet ticket (make_all fixed state) (λ _ _. refl) state.job (λ job _ _ same. refused_counted (sym same)) why is
+      by_named fixed state Quiet ticket (make_all fixed state) (λ _ _. refl) state.job (λ job _ _ same. cc) why is
   quiet (withdraw ticket) why is =
-      by_named fixed state Quiet ticket (take_back fixed state) (λ _ _. refl) state.job (λ job _ _ same. refused_counted (sym same)) why is
-  quiet (drop_rule number) why is = standing_quiet number (erase_rule fixed state number) (λ _ same. done_refused same) why is
-  quiet (change_action number action) why is = standing_quiet number (rewrite_rule fixed state number action) (λ _ same. done_refused same) why is
+      by_named fixed state Quiet ticket (take_back fixed state) (λ _ _. refl) state.job (λ job _ _ same. cc) why is
+  quiet (drop_rule number) why is = standing_quiet number (erase_rule fixed state number) (λ _ same. cc) why is
+  quiet (change_action number action) why is = standing_quiet number (rewrite_rule fixed state number action) (λ _ same. cc) why is
   quiet (look_up subject) why is = look_up_quiet subject
 
   -- a step that is not refused has one event
@@ -102,8 +99,8 @@ module _ (fixed : Fixed) (laws : KindLaws fixed.kind) (state : State) (sound : S
 
   step_single : (ticket : Ticket) → Single (turn fixed state (step ticket))
   step_single ticket =
-      by_named fixed state Single ticket (λ job. cond (written job) (refuse fixed state RunOut) (make_one fixed state job)) (λ _ same. refused_counted same) state.job
-      (λ job is. by_step fixed state Single job (λ _ same. refused_counted same) (λ more _ _. one_write fixed state job (opened_job job is).short more))
+      by_named fixed state Single ticket (λ job. cond (written job) (refuse fixed state RunOut) (make_one fixed state job)) (λ _ same. cc) state.job
+      (λ job is. by_step fixed state Single job (λ _ same. cc) (λ more _ _. one_write fixed state job (opened_job job is).short more))
 
   pub lawful : (call : Call) → Sized call → Lawful fixed state call
   lawful call sized =

@@ -154,7 +154,7 @@ module _ (kind : KindMeaning) (laws : KindLaws kind) (direction : Direction kind
 
   pub going_written : (slots : List Slot) (rules : List Rule) (made gap : ℕ) → Going slots rules made gap [] → Settled kind slots rules
   going_written slots rules made gap going =
-      ⊎_elim (λ begun. absurd (let z : ◌≡◌ {A = ℕ} 0 1 = cc begun.3 in omega arith)) (λ mid. mid_settled slots rules gap mid.1) going
+      ⊎_elim (λ begun. cc begun.3) (λ mid. mid_settled slots rules gap mid.1) going
 
   -- while some of the writes left are not made
   pub writes_good : (left : List ℕ) (slots : List Slot) (rules : List Rule) (made gap some : ℕ) → Going slots rules made gap left → some < length left

@@ -6,7 +6,7 @@ use Rattle.rules.specs.declared.rule.Rule.{Rule}
 use Rattle.shifting.specs.Slots.{Slot, at, taken}
 
 pub none_some : {X : Type 0} {rule : Rule} → ◌≡◌ {A = Slot} None (Some rule) → X
-none_some same = absurd (let z : ◌≡◌ {A = ℕ} 0 1 = cc in omega arith)
+none_some same = cc
 
 pub some_same : {rule other : Rule} → ◌≡◌ {A = Slot} (Some rule) (Some other) → rule ≡ other
 some_same same = cc

@@ -1,5 +1,5 @@
 -- When an add is refused, and when it opens a ticket. Assumes nothing.
-use Rattle.std.proofs.Common.{◌≡◌, ℕ, true, false, cond, eqb, List, [], ◌∷◌, length, Some, None, sym, refl, ap, ◌∙◌, subst, inl, inr, arith}
+use Rattle.std.proofs.Common.{◌≡◌, ℕ, true, false, cond, eqb, List, [], ◌∷◌, length, Some, None, sym, refl, ap, ◌∙◌, subst, inl, inr}
 use Rattle.std.proofs.lemmas.Bool.{cond_both, cond-false, both_ways, ne_eqb, eqb-true, and_parts, or_from, not_from_true}
 use Rattle.rules.specs.declared.rule.Rule.{Rule}
 use Rattle.rules.specs.declared.refusal.Refusal.{Refusal}
@@ -12,9 +12,6 @@ use Rattle.shifting.proofs.Scans.{some_below_hit}
 use Rattle.shifting.proofs.Settled.{Settled}
 use Rattle.shifting.proofs.Turns.{by_idle, by_add}
 use Rattle.shifting.proofs.Spans.{false_from, jump_shortest_chain, crossed_none, no_slot_none}
-
-refused_opened : {X : Type 0} {refusal : Refusal} {ticket : Ticket} → refused refusal ≡ opened ticket → X
-refused_opened same = absurd (let z : ◌≡◌ {A = ℕ} 0 1 = cc in omega arith)
 
 absent_number : (number : ℕ) (rules : List Rule) → ((rule : Rule) → In rule rules → rule.number ≡ number → ⊥) → number_in number rules ≡ false
 absent_number number [] other = refl
@@ -55,7 +52,7 @@ module _ (fixed : Fixed) (laws : KindLaws fixed.kind) (state : State) (new : Rul
       (λ straight. cond_both _ _ _ Exactly
       (λ none. (λ _. no_slot_none fixed.kind state.slots new none, λ _. (NoSlot, refl)))
       (λ has_slot. (
-        λ refusal. refused_opened (sym refusal.1),
+        λ refusal. cc refusal.1,
         λ none. absurd (none (jump_chain fixed.kind state.slots new) (jump_shortest_chain fixed.kind state.slots new straight has_slot).0),
       ))))
     where
@@ -74,8 +71,8 @@ module _ (fixed : Fixed) (laws : KindLaws fixed.kind) (state : State) (new : Rul
 
   pub opens : (ticket : Ticket) → (turn fixed state (add new)).answer ≡ opened ticket → Opens ticket
   opens ticket answer =
-      let one = by_idle fixed state Result (try_add fixed state new) (λ same. refused_opened same)
-      (by_add fixed state Result new (λ why same. refused_opened same) (λ passed same. (passed.straight, passed.has_slot, ap (λ t. t.length) (sym (same_ticket same)), refl)))
+      let one = by_idle fixed state Result (try_add fixed state new) (λ same. cc)
+      (by_add fixed state Result new (λ why same. cc) (λ passed same. (passed.straight, passed.has_slot, ap (λ t. t.length) (sym (same_ticket same)), refl)))
       state.job answer in
       record { straight = one.0; has_slot = one.1; announced = one.2; next_job = one.3 }
     where

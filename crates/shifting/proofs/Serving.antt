@@ -53,7 +53,7 @@ last_written_is job some short =
 -- The tests of the machine by slots.
 
 pub number_rule : (number : ℕ) (rules : List Rule) → number_in number rules ≡ true → (rule : Rule) × In rule rules × (rule.number ≡ number)
-number_rule number [] is = absurd (let z : ◌≡◌ {A = ℕ} 0 1 = cc in omega arith)
+number_rule number [] is = cc
 number_rule number (first ∷ rules) is =
     ⊎_elim (λ here. (first, inl refl, eqb-true first.number number here))
     (λ later. let one = number_rule number rules later in (one.0, inr one.1, one.2))
@@ -108,9 +108,9 @@ Brings (look_up subject) = Unit {0}
 
 pub sized_from : (call : Call) → Brings call → Sized call
 sized_from (add rule) words new same = let is : rule ≡ new = cc in rw (← is) words
-sized_from (step ticket) words new same = absurd (let z : ◌≡◌ {A = ℕ} 0 1 = cc in omega arith)
-sized_from (complete ticket) words new same = absurd (let z : ◌≡◌ {A = ℕ} 0 1 = cc in omega arith)
-sized_from (withdraw ticket) words new same = absurd (let z : ◌≡◌ {A = ℕ} 0 1 = cc in omega arith)
-sized_from (drop_rule number) words new same = absurd (let z : ◌≡◌ {A = ℕ} 0 1 = cc in omega arith)
-sized_from (change_action number action) words new same = absurd (let z : ◌≡◌ {A = ℕ} 0 1 = cc in omega arith)
-sized_from (look_up subject) words new same = absurd (let z : ◌≡◌ {A = ℕ} 0 1 = cc in omega arith)
+sized_from (step ticket) words new same = cc
+sized_from (complete ticket) words new same = cc
+sized_from (withdraw ticket) words new same = cc
+sized_from (drop_rule number) words new same = cc
+sized_from (change_action number action) words new same = cc
+sized_from (look_up subject) words new same = cc

@@ -24,8 +24,8 @@ use Rattle.shifting.proofs.Renewing.{dropped, renewed_settled}
 -- Lists.
 
 drop_more : {X : Type 0} (k : ℕ) (l : List X) (first none : X) (others : List X) → drop k l ≡ first ∷ others → (get_or l k none ≡ first) × (drop (suc k) l ≡ others)
-drop_more zero [] first none others are = absurd (let z : ◌≡◌ {A = ℕ} 0 1 = cc in omega arith)
-drop_more (suc k) [] first none others are = absurd (let z : ◌≡◌ {A = ℕ} 0 1 = cc in omega arith)
+drop_more zero [] first none others are = cc
+drop_more (suc k) [] first none others are = cc
 drop_more zero (x ∷ l) first none others are = (cc, cc)
 drop_more (suc k) (x ∷ l) first none others are = drop_more k l first none others are
 

@@ -3,7 +3,7 @@ ghost use Rattle.std.specs.Prelude.{true, false};
 ghost use Rattle.std.proofs.Common.{rules};
 
 use kinds::{Dial, Packet};
-use rules::{Kind, Rule};
+use rules::{Kind, Rule, Words};
 
 // Two dial patterns, and whether they meet.
 const DIAL_MEETS: [(u64, u64, bool); 9] = [
@@ -36,26 +36,32 @@ const DIAL_WELL_FORMED: [(u64, u64, bool); 5] = [
     (0x9FFF_FFFF_FFFF_FFFF, 1, false),
 ];
 
+// The words of a dial rule with this pattern.
+fn dial_words(pattern: u64) -> Words {
+    Words { a: pattern, b: 0 }
+}
+
 #[test]
 fn dial_corners(rt: HostRuntime) {
     for (pattern, other, answer) in DIAL_MEETS {
-        assert_eq!(rt; <Dial as Kind>::meets(pattern, 0, other, 0), answer);
+        assert_eq!(rt; Dial::meets(dial_words(pattern), dial_words(other)), answer);
     }
     for (pattern, subject, answer) in DIAL_MATCHES {
-        assert_eq!(rt; <Dial as Kind>::matches(pattern, 0, subject), answer);
+        assert_eq!(rt; Dial::matches(dial_words(pattern), subject), answer);
     }
     for (a, b, answer) in DIAL_WELL_FORMED {
-        assert_eq!(rt; <Dial as Kind>::well_formed(a, b), answer);
+        assert_eq!(rt; Dial::well_formed(Words { a, b }), answer);
     }
-    assert!(rt; !<Dial as Kind>::well_formed_subject(0xCFFF_FFFF_FFFF_FFFF));
+    assert!(rt; !Dial::well_formed_subject(0xCFFF_FFFF_FFFF_FFFF));
 }
 
 #[test]
 fn packet_corners(rt: HostRuntime) {
-    assert!(rt; <Packet as Kind>::meets(0x10, 0xF0, 0x01, 0x0F));
-    assert!(rt; !<Packet as Kind>::meets(0x10, 0xF0, 0x20, 0x30));
-    assert!(rt; !<Packet as Kind>::well_formed(0x11, 0x10));
-    assert!(rt; <Packet as Kind>::matches(0x10, 0xF0, 0x1F));
+    let words = Words { a: 0x10, b: 0xF0 };
+    assert!(rt; Packet::meets(words, Words { a: 0x01, b: 0x0F }));
+    assert!(rt; !Packet::meets(words, Words { a: 0x20, b: 0x30 }));
+    assert!(rt; !Packet::well_formed(Words { a: 0x11, b: 0x10 }));
+    assert!(rt; Packet::matches(words, 0x1F));
 }
 
 fn rule(word_a: u64, word_b: u64) -> Rule {
@@ -76,7 +82,7 @@ impl Kind for NoMatch {
 
     ghost lawful = { Prim.search rules };
 
-    fn well_formed(_a: u64, _b: u64) -> bool {
+    fn well_formed(_words: Words) -> bool {
         true
     }
 
@@ -84,11 +90,11 @@ impl Kind for NoMatch {
         true
     }
 
-    fn matches(_a: u64, _b: u64, _subject: u64) -> bool {
+    fn matches(_words: Words, _subject: u64) -> bool {
         false
     }
 
-    fn meets(_a: u64, _b: u64, _other_a: u64, _other_b: u64) -> bool {
+    fn meets(_words: Words, _other: Words) -> bool {
         false
     }
 }

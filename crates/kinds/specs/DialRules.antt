@@ -1,6 +1,7 @@
 -- The dial kind: patterns and dialled subjects of sixteen places, four bits each. Word A is the pattern and word B is 0.
 -- Codes 0 to 9 are digits and 10 is star; the others are named below. Assumes nothing.
 use Rattle.std.specs.Prelude.{ℕ, zero, suc, ◌*◌, ◌/◌, ◌%◌, ◌^◌, Bool, true, false, cond, ◌&&◌, ◌||◌, List, [], ◌∷◌, ◌==◌, nat_le, nat_lt}
+use Rattle.std.specs.List.{list_all}
 use Rattle.rules.specs.Kinds.{KindMeaning}
 
 abbrev pub hash : ℕ
@@ -24,8 +25,7 @@ places zero word = []
 places (suc n) word = word / 2 ^ (4 * n) % 16 ∷ places n word
 
 abbrev pub only_ends : List ℕ → Bool
-only_ends [] = true
-only_ends (code ∷ codes) = code == end && only_ends codes
+only_ends = list_all (λ code. code == end)
 
 -- after the first rest or end only ends follow
 abbrev pub pattern_well_formed : List ℕ → Bool

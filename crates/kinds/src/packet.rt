@@ -2,7 +2,7 @@
 ghost use Rattle.kinds.specs.PacketRules.{packet_meaning};
 ghost use Rattle.kinds.specs.PacketLaw.{packet_laws};
 
-use rules::Kind;
+use rules::{Kind, Words};
 
 pub struct Packet;
 
@@ -11,22 +11,20 @@ impl Kind for Packet {
 
     ghost lawful = { packet_laws };
 
-    fn well_formed(value: u64, mask: u64) -> bool {
-        value & mask == value
+    fn well_formed(words: Words) -> bool {
+        words.a & words.b == words.a
     }
 
     fn well_formed_subject(_subject: u64) -> bool {
         true
     }
 
-    fn matches(value: u64, mask: u64, subject: u64) -> bool {
-        subject & mask == value
+    fn matches(words: Words, subject: u64) -> bool {
+        subject & words.b == words.a
     }
 
-    fn meets(value: u64, mask: u64, other_value: u64, other_mask: u64) -> bool {
-        let both = mask & other_mask;
-        Self::well_formed(value, mask)
-            && Self::well_formed(other_value, other_mask)
-            && value & both == other_value & both
+    fn meets(words: Words, other: Words) -> bool {
+        let both = words.b & other.b;
+        Self::well_formed(words) && Self::well_formed(other) && words.a & both == other.a & both
     }
 }

@@ -6,7 +6,7 @@ use crate::signs::{dial_signs, hexadecimal};
 use kinds::Dial;
 use order_reader::Ending;
 use orders::{AddOrder, Order};
-use rules::Kind;
+use rules::{Kind, Words};
 use std::alloc::{AllocError, Global};
 
 // An order's letter, its place and its fields.
@@ -49,7 +49,7 @@ fn add_line(heap: Global, place: usize, add: &AddOrder) -> Result<String, AllocE
 fn words_text(heap: Global, a: u64, b: u64) -> Result<String, AllocError>
     ensures { IfOk result (λ text. string_bytes text ≡ words_text a b) }
 {
-    if Dial::well_formed(a, b) {
+    if Dial::well_formed(Words { a, b }) {
         let signs = dial_signs(heap, a)?;
         format!(in heap; "pattern \"{signs}\" well formed")
     } else {

@@ -11,10 +11,7 @@ use crate::rule::Rule;
 pub fn slot_matches<K: Kind>(slot: Option<Rule>, subject: u64) -> bool
     ensures { result ≡ slot_matches K.Kind.meaning subject slot }
 {
-    match slot {
-        Some(rule) => K::matches(rule.word_a, rule.word_b, subject),
-        None => false,
-    }
+    slot.is_some_and(|rule| K::matches(rule.words(), subject))
 }
 
 // What a device does is fixed by its slots, but for the rule of its trace, which is free.

@@ -2,21 +2,23 @@
 ghost use Rattle.std.specs.Prelude.{◌≡◌};
 ghost use Rattle.rules.specs.Kinds.{KindMeaning, KindLaws};
 
+use crate::words::Words;
+
 // The tests answer for every input: what is not well formed matches and meets nothing.
 pub trait Kind {
     ghost meaning: { KindMeaning };
 
-    fn well_formed(a: u64, b: u64) -> bool
-        ensures { result ≡ meaning.well_formed a b };
+    fn well_formed(words: Words) -> bool
+        ensures { result ≡ meaning.well_formed words.a words.b };
 
     fn well_formed_subject(subject: u64) -> bool
         ensures { result ≡ meaning.well_formed_subject subject };
 
-    fn matches(a: u64, b: u64, subject: u64) -> bool
-        ensures { result ≡ meaning.matches a b subject };
+    fn matches(words: Words, subject: u64) -> bool
+        ensures { result ≡ meaning.matches words.a words.b subject };
 
-    fn meets(a: u64, b: u64, other_a: u64, other_b: u64) -> bool
-        ensures { result ≡ meaning.meets a b other_a other_b };
+    fn meets(words: Words, other: Words) -> bool
+        ensures { result ≡ meaning.meets words.a words.b other.a other.b };
 
     ghost lawful: { KindLaws meaning };
 }

@@ -6,9 +6,11 @@ mod event;
 mod kind;
 mod refusal;
 mod rule;
+mod words;
 
 pub use device::{SlotDevice, slot_matches};
 pub use event::Event;
 pub use kind::Kind;
 pub use refusal::Refusal;
 pub use rule::Rule;
+pub use words::Words;

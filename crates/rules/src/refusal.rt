@@ -25,9 +25,11 @@ impl Refusal {
     pub fn number(self) -> u8
         ensures { result ≡ number self }
     {
+        // Kept: From<Refusal> for u8 would be no plainer: callers ask a refusal for its number, by that name.
         self as u8
     }
 
+    // Kept: Display would be no plainer: it writes these words too, and its fmt can promise nothing of their bytes.
     pub fn word(self) -> &'static str
         ensures { result.now ≡ word self }
     {

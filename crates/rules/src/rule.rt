@@ -3,6 +3,7 @@ ghost use Rattle.std.specs.Prelude.{◌≡◌};
 ghost use Rattle.rules.specs.Slots.{in_slot};
 
 use crate::kind::Kind;
+use crate::words::Words;
 
 // Number 0 marks an empty slot. A larger priority wins.
 #[derive(Clone, Copy, PartialEq, Eq, Debug)]
@@ -29,7 +30,17 @@ impl Rule {
     pub fn in_slot(self) -> Option<Rule>
         ensures { result ≡ in_slot self }
     {
-        if self.number == 0 { None } else { Some(self) }
+        (self.number != 0).then_some(self)
+    }
+
+    // What the rule's kind reads of it.
+    pub fn words(self) -> Words
+        ensures { result ≡ record { a = self.word_a; b = self.word_b } }
+    {
+        Words {
+            a: self.word_a,
+            b: self.word_b,
+        }
     }
 
     // Two rules meet whichever of them is named first.
@@ -37,6 +48,6 @@ impl Rule {
         ensures answer { result ≡ K.Kind.meaning.meets self.word_a self.word_b other.word_a other.word_b }
         ensures symmetric { result ≡ K.Kind.meaning.meets other.word_a other.word_b self.word_a self.word_b }
     {
-        K::meets(self.word_a, self.word_b, other.word_a, other.word_b)
+        K::meets(self.words(), other.words())
     }
 }

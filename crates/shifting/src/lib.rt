@@ -4,15 +4,11 @@
 ghost use Rattle.shifting.specs.Law.{JumpRule, LawOfRuns};
 
 // The jump rule gives a shortest downward chain.
-pub fn jump_rule_stands() -> u8
+pub fn jump_rule_stands()
     ensures { JumpRule }
-{
-    0
-}
+{}
 
 // The law of runs holds of every board.
-pub fn law_of_runs_stands() -> u8
+pub fn law_of_runs_stands()
     ensures { LawOfRuns }
-{
-    0
-}
+{}

@@ -2,6 +2,6 @@ use Rattle.std.proofs.Common.{rules}
 use Rattle.kinds.specs.DialRules.{places}
 use Rattle.cases.proofs.worked_cases.Goals as goal
 
-pub returns : goal.returns
+pub returns-clause-hold : goal.returns-clause-hold
 unfolding places
-returns c = search rules
+returns-clause-hold c = search rules

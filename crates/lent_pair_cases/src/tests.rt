@@ -1,6 +1,6 @@
 // A pair over two lent record banks.
 use crate::{erase_pair_of_records, write_any_pair_of_records, write_pair_of_records};
-use lent_pair::Pair;
+use pair::Pair;
 use record_bank::RecordBank;
 use rules::{Rule, SlotDevice};
 

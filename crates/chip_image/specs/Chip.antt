@@ -1,5 +1,5 @@
 -- The chip image: slots by addresses. Assumes nothing.
-use Rattle.std.specs.Prelude.{ℕ, ◌^◌, ◌<◌, List, map, length, slice_index, slice_set}
+use Rattle.std.specs.Prelude.{ℕ, List, map, length, slice_index, slice_set}
 use Rattle.std.specs.List.{range_with_len}
 use Rattle.rules.specs.declared.rule.Rule.{Rule}
 use Rattle.rules.specs.declared.event.Event.{Event}
@@ -32,8 +32,3 @@ row_changed words q h a b = slice_set (slice_set (slice_set words (header_place 
 abbrev pub chip_changed : List ℕ → Event → List ℕ
 chip_changed words (Write slot rule) = row_changed words (address (chip_count words) slot) (header rule) rule.word_a rule.word_b
 chip_changed words (Erase slot) = row_changed words (address (chip_count words) slot) 0 0 0
-
--- the numbers of a written rule are within their fields of a header
-abbrev pub Fitting : Event → Type 0
-Fitting (Write slot rule) = (rule.number < 2 ^ 16) × (rule.priority < 2 ^ 16) × (rule.action < 2 ^ 32)
-Fitting (Erase slot) = Unit {0}

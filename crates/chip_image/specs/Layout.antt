@@ -2,6 +2,7 @@
 -- Assumes nothing.
 use Rattle.std.specs.Prelude.{ℕ, ◌+◌, ◌-◌, ◌*◌, ◌/◌, ◌%◌, ◌^◌, min}
 use Rattle.rules.specs.declared.rule.Rule.{Rule}
+use Rattle.chip_image.specs.declared.layout.Row.{Row}
 
 -- every whole block counts, up to the first ten, and has 48 addresses
 abbrev pub address_count : ℕ → ℕ
@@ -30,6 +31,10 @@ word_b_place address = header_place address + 96
 
 abbrev pub header : Rule → ℕ
 header rule = rule.number * 2 ^ 48 + rule.priority * 2 ^ 32 + rule.action
+
+-- the words that a rule is written as
+abbrev pub packed : Rule → Row
+packed rule = record { header = header rule; word_a = rule.word_a; word_b = rule.word_b }
 
 -- the record that a header and its words A and B stand for
 abbrev pub unpacked : ℕ → ℕ → ℕ → Rule

@@ -1,6 +1,6 @@
 // How rules lie in the words of a chip: in blocks of 48 headers, 48 words A and 48 words B.
 ghost use Rattle.std.specs.Prelude.{◌≡◌, ◌<◌};
-ghost use Rattle.chip_image.specs.Layout.{address_count, address, block_of, row_of, header_place, header, unpacked};
+ghost use Rattle.chip_image.specs.Layout.{address_count, address, header_place, packed, unpacked};
 
 use rules::Rule;
 
@@ -19,12 +19,7 @@ const PRIORITY_UNIT: u64 = 0x1_0000_0000;
 pub(crate) fn address_count(words: usize) -> u16
     ensures { result ≡ address_count words }
 {
-    let blocks = words / BLOCK_WORDS;
-    if blocks < MOST_BLOCKS {
-        (ROWS * blocks) as u16
-    } else {
-        (ROWS * MOST_BLOCKS) as u16
-    }
+    (ROWS * (words / BLOCK_WORDS).min(MOST_BLOCKS)) as u16
 }
 
 // Slot 0 has the last address.
@@ -35,43 +30,54 @@ pub(crate) fn slot_address(count: u16, slot: u16) -> u16
     count - 1 - slot
 }
 
-struct Place {
-    block: usize,
-    row: usize,
-}
-
-fn block_and_row(address: u16) -> Place
-    ensures block { result.block ≡ block_of address }
-    ensures row { result.row ≡ row_of address }
-{
-    let address = address as usize;
-    Place {
-        block: address / ROWS,
-        row: address % ROWS,
-    }
-}
-
 pub(crate) fn header_place(address: u16) -> usize
     ensures { result ≡ header_place address }
 {
-    let Place { block, row } = block_and_row(address);
-    BLOCK_WORDS * block + row
+    let address = usize::from(address);
+    BLOCK_WORDS * (address / ROWS) + address % ROWS
 }
 
-pub(crate) fn header(rule: Rule) -> u64
-    ensures { result ≡ header rule }
-{
-    rule.number as u64 * NUMBER_UNIT + rule.priority as u64 * PRIORITY_UNIT + rule.action as u64
+// The three words of an address.
+#[derive(Clone, Copy)]
+pub(crate) struct Row {
+    pub(crate) header: u64,
+    pub(crate) word_a: u64,
+    pub(crate) word_b: u64,
 }
 
-pub(crate) fn unpacked(header: u64, word_a: u64, word_b: u64) -> Rule
-    ensures { result ≡ unpacked header word_a word_b }
-{
-    Rule {
-        number: (header / NUMBER_UNIT) as u16,
-        priority: (header / PRIORITY_UNIT % 0x1_0000) as u16,
-        action: (header % PRIORITY_UNIT) as u32,
-        word_a,
-        word_b,
+impl Row {
+    // The words of an empty slot.
+    pub(crate) const ZERO: Row = Row {
+        header: 0,
+        word_a: 0,
+        word_b: 0,
+    };
+}
+
+impl From<Rule> for Row {
+    ghost from_gives = { λ rule row. row ≡ packed rule };
+
+    fn from(rule: Rule) -> Row {
+        Row {
+            header: u64::from(rule.number) * NUMBER_UNIT
+                + u64::from(rule.priority) * PRIORITY_UNIT
+                + u64::from(rule.action),
+            word_a: rule.word_a,
+            word_b: rule.word_b,
+        }
+    }
+}
+
+impl From<Row> for Rule {
+    ghost from_gives = { λ row rule. rule ≡ unpacked row.header row.word_a row.word_b };
+
+    fn from(row: Row) -> Rule {
+        Rule {
+            number: (row.header / NUMBER_UNIT) as u16,
+            priority: (row.header / PRIORITY_UNIT % 0x1_0000) as u16,
+            action: (row.header % PRIORITY_UNIT) as u32,
+            word_a: row.word_a,
+            word_b: row.word_b,
+        }
     }
 }

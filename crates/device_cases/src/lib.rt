@@ -13,6 +13,15 @@ use rules::{Refusal, Rule, SlotDevice};
 #[cfg(test)]
 mod tests;
 
+// As a dial rule it is mangled, since word B is not 0; as a packet rule it is mangled, since word A is not under the mask.
+pub const MANGLED: Rule = Rule {
+    number: 0x0102,
+    priority: 0x0304,
+    action: 0x0506_0708,
+    word_a: 2,
+    word_b: 1,
+};
+
 pub fn write_any<D: SlotDevice>(device: &mut D, slot: u16, rule: Rule) -> Result<(), Refusal>
     ensures answer { result ≡ answer (writing (length (D.SlotDevice.slots device.old)) slot rule) }
     ensures memory { D.SlotDevice.memory device.new ≡ after D.SlotDevice.stored (D.SlotDevice.memory device.old) (writing (length (D.SlotDevice.slots device.old)) slot rule) }

@@ -1,18 +1,10 @@
 // The layouts on a few literal records and words.
+use crate::MANGLED;
 use chip_image::ChipImage;
 use pair::Pair;
 use record_bank::RecordBank;
 use recorder::Recorder;
 use rules::{Rule, SlotDevice};
-
-// As a dial rule it is mangled, since word B is not 0; as a packet rule it is mangled, since word A is not under the mask.
-const MANGLED: Rule = Rule {
-    number: 0x0102,
-    priority: 0x0304,
-    action: 0x0506_0708,
-    word_a: 2,
-    word_b: 1,
-};
 
 // Number 0 with other fields set.
 const UNNUMBERED: Rule = Rule {
@@ -25,11 +17,8 @@ const UNNUMBERED: Rule = Rule {
 
 // The number that a slot's rule has, 0 for an empty slot, or none where read refuses.
 fn number_at<D: SlotDevice>(device: &D, slot: u16) -> Option<u16> {
-    match device.read(slot) {
-        Ok(Some(rule)) => Some(rule.number),
-        Ok(None) => Some(0),
-        Err(_) => None,
-    }
+    let held = device.read(slot).ok()?;
+    Some(held.map_or(0, |rule| rule.number))
 }
 
 #[test]

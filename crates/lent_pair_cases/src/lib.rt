@@ -1,14 +1,14 @@
 // What the lender of two devices' memory knows of it, once a pair over both is let go.
 #![tactic(auto)]
 
-ghost use Rattle.std.specs.Prelude.{◌≡◌, ◌++◌, length};
+ghost use Rattle.std.specs.Prelude.{◌≡◌, length};
 ghost use Rattle.rules.specs.Slots.{writing, erasing, answer, after};
 ghost use Rattle.record_bank.specs.Records.{bank_slots, record_changed};
-ghost use Rattle.lent_pair.specs.Halves.{writing_of, on_half, on_first, on_second};
-ghost use Rattle.lent_pair.specs.Joined.{joined, both_lent, both_stored};
+ghost use Rattle.pair.specs.Halves.{writing_of, on_half, on_first, on_second};
+ghost use Rattle.pair.specs.Joined.{joined, both_lent, both_stored};
 
 use device_cases::write_any;
-use lent_pair::{Pair, erase_pair, write_pair};
+use pair::{Pair, erase_pair, write_pair};
 use record_bank::RecordBank;
 use rules::{Refusal, Rule, SlotDevice};
 
@@ -24,7 +24,8 @@ pub fn write_any_pair<D: SlotDevice, E: SlotDevice<Kind = D::Kind>>(
 ) -> Result<(), Refusal>
     ensures answer { result ≡ answer (writing (length (joined (D.SlotDevice.slots first.old) (E.SlotDevice.slots second.old))) slot rule) }
     ensures memory { both_lent (D.SlotDevice.slots first.new) (D.SlotDevice.memory first.new) (E.SlotDevice.memory second.new) ≡ after (both_stored D.SlotDevice.stored E.SlotDevice.stored) (both_lent (D.SlotDevice.slots first.old) (D.SlotDevice.memory first.old) (E.SlotDevice.memory second.old)) (writing (length (joined (D.SlotDevice.slots first.old) (E.SlotDevice.slots second.old))) slot rule) }
-    ensures same { D.SlotDevice.lenders first.new ++ E.SlotDevice.lenders second.new ≡ D.SlotDevice.lenders first.old ++ E.SlotDevice.lenders second.old }
+    ensures same { D.SlotDevice.lenders first.new ≡ D.SlotDevice.lenders first.old }
+    ensures same_second { E.SlotDevice.lenders second.new ≡ E.SlotDevice.lenders second.old }
 {
     let mut pair = Pair { first, second };
     write_any(&mut pair, slot, rule)

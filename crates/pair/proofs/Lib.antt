@@ -1,5 +1,2 @@
-mod Calls
-mod Counts
 mod Firsts
 mod Joins
-mod Outcomes

@@ -14,6 +14,9 @@ pub record BothLent (X Y : Type 0) : Type 0 where
   pub first : X
   pub second : Y
 
+abbrev pub both_lent : {X Y : Type 0} → List Slot → X → Y → BothLent X Y
+both_lent slots first second = record { split = length slots; first = first; second = second }
+
 abbrev pub event_slot : Event → ℕ
 event_slot (Write slot rule) = slot
 event_slot (Erase slot) = slot

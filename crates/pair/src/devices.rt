@@ -1,9 +1,10 @@
 // Two slot devices of one kind as one: the first's slots, then the second's.
-ghost use Rattle.std.specs.Prelude.{◌≡◌, ◌++◌, length};
-ghost use Rattle.rules.specs.Slots.{untraced, erasing, answer, carried_out, after, first_match};
+ghost use Rattle.std.specs.Prelude.{◌≡◌, length};
+ghost use Rattle.rules.specs.Devices.{CarriesOut};
+ghost use Rattle.rules.specs.Slots.{untraced, erasing, answer, first_match};
 ghost use Rattle.rules.proofs.Records.{joined_lawful};
-ghost use Rattle.pair.specs.Halves.{reading_half, writing_of, outcome_half, outcome_first, outcome_second, match_of_halves};
-ghost use Rattle.pair.specs.Joined.{joined, BothLent, both_stored};
+ghost use Rattle.pair.specs.Halves.{half_of, writing_of, on_half, on_first, on_second, match_in_second};
+ghost use Rattle.pair.specs.Joined.{joined, BothLent, both_lent, both_stored};
 
 use crate::half::{Half, both_fit, half_of};
 use rules::{Refusal, Rule, SlotDevice};
@@ -16,59 +17,45 @@ pub struct Pair<D, E> {
 }
 
 impl<D: SlotDevice, E: SlotDevice<Kind = D::Kind>> Pair<D, E> {
-    fn read_half(&self, half: Half) -> Result<Option<Rule>, Refusal>
-        ensures { result ≡ reading_half (D.SlotDevice.slots self.now.first) (E.SlotDevice.slots self.now.second) half }
+    fn half_at(&self, slot: u16) -> Half
+        ensures { result ≡ half_of (length (D.SlotDevice.slots self.now.first)) (length (E.SlotDevice.slots self.now.second)) slot }
     {
-        match half {
-            Half::First(slot) => self.first.read(slot),
-            Half::Second(slot) => self.second.read(slot),
-        }
+        half_of(self.first.count(), self.second.count(), slot)
     }
 
-    fn write_half(&mut self, half: Half, rule: Rule) -> Result<(), Refusal>
-        ensures answer { result ≡ answer (outcome_half (writing_of rule) (length (D.SlotDevice.slots self.old.first)) (length (E.SlotDevice.slots self.old.second)) half) }
-        ensures slots { D.SlotDevice.slots self.new.first ≡ after carried_out (D.SlotDevice.slots self.old.first) (outcome_first (writing_of rule) (length (D.SlotDevice.slots self.old.first)) half) }
-        ensures slots_second { E.SlotDevice.slots self.new.second ≡ after carried_out (E.SlotDevice.slots self.old.second) (outcome_second (writing_of rule) (length (E.SlotDevice.slots self.old.second)) half) }
-        ensures memory { D.SlotDevice.memory self.new.first ≡ after D.SlotDevice.stored (D.SlotDevice.memory self.old.first) (outcome_first (writing_of rule) (length (D.SlotDevice.slots self.old.first)) half) }
-        ensures memory_second { E.SlotDevice.memory self.new.second ≡ after E.SlotDevice.stored (E.SlotDevice.memory self.old.second) (outcome_second (writing_of rule) (length (E.SlotDevice.slots self.old.second)) half) }
-        ensures same { D.SlotDevice.lenders self.new.first ≡ D.SlotDevice.lenders self.old.first }
-        ensures same_second { E.SlotDevice.lenders self.new.second ≡ E.SlotDevice.lenders self.old.second }
+    // What is written to the pair, said of each device: the one that the slot is not in stays as it is.
+    pub(crate) fn write_half(&mut self, slot: u16, rule: Rule) -> Result<(), Refusal>
+        ensures answer { result ≡ answer (on_half (writing_of rule) (D.SlotDevice.slots self.old.first) (E.SlotDevice.slots self.old.second) slot) }
+        ensures first { CarriesOut D.SlotDevice (on_first (writing_of rule) (D.SlotDevice.slots self.old.first) (E.SlotDevice.slots self.old.second) slot) self.old.first self.new.first }
+        ensures second { CarriesOut E.SlotDevice (on_second (writing_of rule) (D.SlotDevice.slots self.old.first) (E.SlotDevice.slots self.old.second) slot) self.old.second self.new.second }
     {
-        match half {
+        match self.half_at(slot) {
             Half::First(slot) => self.first.write(slot, rule),
             Half::Second(slot) => self.second.write(slot, rule),
         }
     }
 
-    fn erase_half(&mut self, half: Half) -> Result<(), Refusal>
-        ensures answer { result ≡ answer (outcome_half erasing (length (D.SlotDevice.slots self.old.first)) (length (E.SlotDevice.slots self.old.second)) half) }
-        ensures slots { D.SlotDevice.slots self.new.first ≡ after carried_out (D.SlotDevice.slots self.old.first) (outcome_first erasing (length (D.SlotDevice.slots self.old.first)) half) }
-        ensures slots_second { E.SlotDevice.slots self.new.second ≡ after carried_out (E.SlotDevice.slots self.old.second) (outcome_second erasing (length (E.SlotDevice.slots self.old.second)) half) }
-        ensures memory { D.SlotDevice.memory self.new.first ≡ after D.SlotDevice.stored (D.SlotDevice.memory self.old.first) (outcome_first erasing (length (D.SlotDevice.slots self.old.first)) half) }
-        ensures memory_second { E.SlotDevice.memory self.new.second ≡ after E.SlotDevice.stored (E.SlotDevice.memory self.old.second) (outcome_second erasing (length (E.SlotDevice.slots self.old.second)) half) }
-        ensures same { D.SlotDevice.lenders self.new.first ≡ D.SlotDevice.lenders self.old.first }
-        ensures same_second { E.SlotDevice.lenders self.new.second ≡ E.SlotDevice.lenders self.old.second }
+    // The same of an erase.
+    pub(crate) fn erase_half(&mut self, slot: u16) -> Result<(), Refusal>
+        ensures answer { result ≡ answer (on_half erasing (D.SlotDevice.slots self.old.first) (E.SlotDevice.slots self.old.second) slot) }
+        ensures first { CarriesOut D.SlotDevice (on_first erasing (D.SlotDevice.slots self.old.first) (E.SlotDevice.slots self.old.second) slot) self.old.first self.new.first }
+        ensures second { CarriesOut E.SlotDevice (on_second erasing (D.SlotDevice.slots self.old.first) (E.SlotDevice.slots self.old.second) slot) self.old.second self.new.second }
     {
-        match half {
+        match self.half_at(slot) {
             Half::First(slot) => self.first.erase(slot),
             Half::Second(slot) => self.second.erase(slot),
         }
     }
 
-    fn match_in_halves(&self, subject: u64) -> Option<u16>
-        ensures { result ≡ match_of_halves (length (D.SlotDevice.slots self.now.first)) (length (E.SlotDevice.slots self.now.second)) (first_match D.Kind.Kind.meaning (D.SlotDevice.slots self.now.first) subject) (first_match D.Kind.Kind.meaning (E.SlotDevice.slots self.now.second) subject) }
+    // The second's first match, by its number in the pair.
+    fn match_in_second(&self, subject: u64) -> Option<u16>
+        ensures { result ≡ match_in_second (length (D.SlotDevice.slots self.now.first)) (length (E.SlotDevice.slots self.now.second)) (first_match D.Kind.Kind.meaning (E.SlotDevice.slots self.now.second) subject) }
     {
         let count = self.first.count();
-        if let Some(slot) = self.first.first_match(subject) {
-            return Some(slot);
-        }
         if !both_fit(count, self.second.count()) {
             return None;
         }
-        match self.second.first_match(subject) {
-            Some(slot) => Some(count + slot),
-            None => None,
-        }
+        self.second.first_match(subject).map(|slot| count + slot)
     }
 }
 
@@ -84,39 +71,40 @@ impl<D: SlotDevice, E: SlotDevice<Kind = D::Kind>> SlotDevice for Pair<D, E> {
 
     ghost Lent = { BothLent D.SlotDevice.Lent E.SlotDevice.Lent };
 
-    ghost memory = { λ pair. record { split = length (D.SlotDevice.slots pair.first); first = D.SlotDevice.memory pair.first; second = E.SlotDevice.memory pair.second } };
+    ghost memory = { λ pair. both_lent (D.SlotDevice.slots pair.first) (D.SlotDevice.memory pair.first) (E.SlotDevice.memory pair.second) };
 
     ghost stored = { both_stored D.SlotDevice.stored E.SlotDevice.stored };
 
-    ghost lenders = { λ pair. D.SlotDevice.lenders pair.first ++ E.SlotDevice.lenders pair.second };
+    ghost Lenders = { D.SlotDevice.Lenders × E.SlotDevice.Lenders };
+
+    ghost lenders = { λ pair. (D.SlotDevice.lenders pair.first, E.SlotDevice.lenders pair.second) };
 
     ghost lawful = { λ pair. joined_lawful _ _ (D.SlotDevice.lawful pair.first) (E.SlotDevice.lawful pair.second) };
 
     fn count(&self) -> u16 {
         let first = self.first.count();
-        let second = self.second.count();
-        if both_fit(first, second) {
-            first + second
-        } else {
-            first
-        }
+        first.checked_add(self.second.count()).unwrap_or(first)
     }
 
     fn read(&self, slot: u16) -> Result<Option<Rule>, Refusal> {
-        self.read_half(half_of(self.first.count(), self.second.count(), slot))
+        match self.half_at(slot) {
+            Half::First(slot) => self.first.read(slot),
+            Half::Second(slot) => self.second.read(slot),
+        }
     }
 
+    #[tactic(auto, using(crate::proofs::Joins::writing_joined))]
     fn write(&mut self, slot: u16, rule: Rule) -> Result<(), Refusal> {
-        let half = half_of(self.first.count(), self.second.count(), slot);
-        self.write_half(half, rule)
+        self.write_half(slot, rule)
     }
 
+    #[tactic(auto, using(crate::proofs::Joins::erasing_joined))]
     fn erase(&mut self, slot: u16) -> Result<(), Refusal> {
-        let half = half_of(self.first.count(), self.second.count(), slot);
-        self.erase_half(half)
+        self.erase_half(slot)
     }
 
     fn first_match(&self, subject: u64) -> Option<u16> {
-        self.match_in_halves(subject)
+        let first = self.first.first_match(subject);
+        first.or_else(|| self.match_in_second(subject))
     }
 }

@@ -1,6 +1,6 @@
 // The half of a pair that a slot is in, and its number there.
 ghost use Rattle.std.specs.Prelude.{◌≡◌, ◌+◌, nat_le};
-ghost use Rattle.pair.specs.Halves.{InHalf};
+ghost use Rattle.pair.specs.Halves.{half_of};
 
 #[derive(Clone, Copy)]
 pub(crate) enum Half {
@@ -12,12 +12,12 @@ pub(crate) enum Half {
 pub(crate) fn both_fit(first: u16, second: u16) -> bool
     ensures { result ≡ nat_le (first + second) 65535 }
 {
-    second <= u16::MAX - first
+    first.checked_add(second).is_some()
 }
 
 // By the counts of the two devices.
 pub(crate) fn half_of(first: u16, second: u16, slot: u16) -> Half
-    ensures { InHalf first second slot result }
+    ensures { result ≡ half_of first second slot }
 {
     if slot < first || !both_fit(first, second) {
         Half::First(slot)

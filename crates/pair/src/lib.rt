@@ -3,5 +3,7 @@
 
 mod devices;
 mod half;
+mod lent;
 
 pub use devices::Pair;
+pub use lent::{erase_pair, write_pair};

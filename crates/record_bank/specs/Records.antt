@@ -1,5 +1,5 @@
 -- The record bank: slot i is the caller's record i. Assumes nothing.
-use Rattle.std.specs.Prelude.{ℕ, min, List, map, take, slice_set}
+use Rattle.std.specs.Prelude.{ℕ, List, map, take, slice_set}
 use Rattle.rules.specs.declared.rule.Rule.{Rule}
 use Rattle.rules.specs.declared.event.Event.{Event}
 use Rattle.rules.specs.declared.event.Event.TheVariants.{Write, Erase}
@@ -15,9 +15,6 @@ most_slots = 480
 -- every record is a slot, up to the first 480
 abbrev pub bank_slots : List Rule → List Slot
 bank_slots records = map in_slot (take most_slots records)
-
-abbrev pub bank_count : ℕ → ℕ
-bank_count records = min most_slots records
 
 -- an erased record
 abbrev pub zero_record : Rule

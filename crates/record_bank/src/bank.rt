@@ -1,9 +1,9 @@
 // The record bank: dial rules in the caller's records, one slot to a record.
-ghost use Rattle.std.specs.Prelude.{◌≡◌, ◌<◌, [], ◌∷◌, length, None, slice_index_or};
+ghost use Rattle.std.specs.Prelude.{◌≡◌, ℕ, ◌<◌, length, None, slice_index_or};
 ghost use Rattle.std.proofs.Common.{lit≤};
 ghost use Rattle.rules.specs.Slots.{untraced, Possible, carried_out};
 ghost use Rattle.rules.proofs.Records.{first_records_lawful};
-ghost use Rattle.record_bank.specs.Records.{LentRecords, most_slots, bank_slots, bank_count, record_changed};
+ghost use Rattle.record_bank.specs.Records.{LentRecords, most_slots, bank_slots, record_changed};
 
 use kinds::Dial;
 use rules::{Event, Refusal, Rule, SlotDevice, slot_matches};
@@ -16,17 +16,6 @@ pub struct RecordBank<'a> {
     records: &'a mut [Rule],
 }
 
-// How many of the caller's records are slots.
-fn bank_count(records: usize) -> u16
-    ensures { result ≡ bank_count records }
-{
-    if records < MOST_SLOTS {
-        records as u16
-    } else {
-        MOST_SLOTS as u16
-    }
-}
-
 impl<'a> RecordBank<'a> {
     // The caller has the records back, as the device left them, when the device is let go.
     pub fn over(records: &'a mut [Rule]) -> RecordBank<'a>
@@ -36,32 +25,34 @@ impl<'a> RecordBank<'a> {
         RecordBank { records }
     }
 
+    // How many of the caller's records are slots.
+    #[tactic(auto, using(crate::proofs::Banks::length_bank))]
+    fn slot_count(&self) -> u16
+        ensures { result ≡ length (bank_slots self.now.records.now) }
+    {
+        self.records.len().min(MOST_SLOTS) as u16
+    }
+
+    #[tactic(auto, using(crate::proofs::Banks::bank_at))]
     fn at(&self, slot: u16) -> Option<Rule>
         requires { slot < length (bank_slots self.now.records.now) }
         ensures { result ≡ slice_index_or (bank_slots self.now.records.now) slot None }
     {
-        self.records[slot as usize].in_slot()
+        self.records[usize::from(slot)].in_slot()
     }
 
     // Writes the one record that an event is of.
-    fn store(&mut self, event: Event)
-        requires { Possible (length self.old.records.now) event }
-        ensures memory { self.new.records.now ≡ record_changed self.old.records.now event }
-        ensures same { self.new.records.ghost_name ≡ self.old.records.ghost_name }
-    {
-        match event {
-            Event::Write(slot, rule) => self.records[slot as usize] = rule,
-            Event::Erase(slot) => self.records[slot as usize] = Rule::ZERO,
-        }
-    }
-
+    #[tactic(auto, using(crate::proofs::Banks::bank_set))]
     fn carry_out(&mut self, event: Event)
         requires { Possible (length (bank_slots self.old.records.now)) event }
         ensures slots { bank_slots self.new.records.now ≡ carried_out (bank_slots self.old.records.now) event }
         ensures memory { self.new.records.now ≡ record_changed self.old.records.now event }
         ensures same { self.new.records.ghost_name ≡ self.old.records.ghost_name }
     {
-        self.store(event);
+        match event {
+            Event::Write(slot, rule) => self.records[usize::from(slot)] = rule,
+            Event::Erase(slot) => self.records[usize::from(slot)] = Rule::ZERO,
+        }
     }
 }
 
@@ -80,42 +71,36 @@ impl<'a> SlotDevice for RecordBank<'a> {
 
     ghost stored = { record_changed };
 
-    ghost lenders = { λ bank. bank.records.ghost_name ∷ [] };
+    ghost Lenders = { ℕ };
+
+    ghost lenders = { λ bank. bank.records.ghost_name };
 
     ghost lawful = { λ bank. first_records_lawful most_slots bank.records.now (lit≤ tt) };
 
     fn count(&self) -> u16 {
-        bank_count(self.records.len())
+        self.slot_count()
     }
 
     fn read(&self, slot: u16) -> Result<Option<Rule>, Refusal> {
-        if slot >= self.count() {
+        if slot >= self.slot_count() {
             return Err(Refusal::OffTheTable);
         }
         Ok(self.at(slot))
     }
 
     fn write(&mut self, slot: u16, rule: Rule) -> Result<(), Refusal> {
-        let event = Event::writing(self.count(), slot, rule)?;
+        let event = Event::writing(self.slot_count(), slot, rule)?;
         self.carry_out(event);
         Ok(())
     }
 
     fn erase(&mut self, slot: u16) -> Result<(), Refusal> {
-        let event = Event::erasing(self.count(), slot)?;
+        let event = Event::erasing(self.slot_count(), slot)?;
         self.carry_out(event);
         Ok(())
     }
 
     fn first_match(&self, subject: u64) -> Option<u16> {
-        let count = self.count();
-        let mut slot = 0;
-        while slot < count {
-            if slot_matches::<Dial>(self.at(slot), subject) {
-                return Some(slot);
-            }
-            slot += 1;
-        }
-        None
+        (0..self.slot_count()).find(|slot| slot_matches::<Dial>(self.at(*slot), subject))
     }
 }

@@ -26,6 +26,8 @@ impl<D: SlotDevice> SlotDevice for Recorder<D> {
 
     ghost stored = { D.SlotDevice.stored };
 
+    ghost Lenders = { D.SlotDevice.Lenders };
+
     ghost lenders = { λ recorder. D.SlotDevice.lenders recorder.device };
 
     ghost lawful = { λ recorder. D.SlotDevice.lawful recorder.device };

@@ -1,3 +1,3 @@
 pub mod Meeting
-pub mod Places
 pub mod Records
+pub mod Searches

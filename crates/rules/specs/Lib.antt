@@ -1,3 +1,4 @@
+pub mod Devices
 pub mod Kinds
 pub mod Refusals
 pub mod Slots

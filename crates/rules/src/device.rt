@@ -34,7 +34,9 @@ pub trait SlotDevice {
     ghost stored: { Lent → Event → Lent };
 
     // the ghost names of the loans, by which a lender knows its memory again
-    ghost lenders: { Self → List ℕ };
+    ghost Lenders: { Type 0 };
+
+    ghost lenders: { Self → Lenders };
 
     // what each device must prove: a `law` is not proved yet where an impl has a lifetime
     ghost lawful: { (device : Self) → SlotLaws (slots device) };

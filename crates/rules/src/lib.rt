@@ -4,6 +4,7 @@
 mod device;
 mod event;
 mod kind;
+mod lent;
 mod refusal;
 mod rule;
 mod words;

@@ -1,14 +1,9 @@
-use Rattle.std.proofs.Common.{ap, ◌∙◌}
-use Rattle.record_bank.specs.Records.{bank_slots}
-use Rattle.record_bank.proofs.Banks.{bank_possible, bank_carried}
+use Rattle.std.proofs.Common.{arith}
+use Rattle.record_bank.proofs.Banks.{length_bank}
 use Rattle.record_bank.proofs.bank.RecordBank.carry_out.Goals as goal
 
-pub store-requires : goal.store-requires
-store-requires c = bank_possible c.args.self.now.records.now c.args.event c.requires
+pub bounds-self-from : goal.bounds-self-from
+bounds-self-from c = let possible = rw c.in-Write.is at c.requires in omega (arith, length_bank c.args.self.now.records.now)
 
-pub returns : goal.returns
-returns c = record {
-  slots = ap bank_slots c.store.ensures.memory ∙ bank_carried c.args.self.now.records.now c.args.event c.requires;
-  memory = c.store.ensures.memory;
-  same = c.store.ensures.same;
-}
+pub bounds-self-from-in-Erase : goal.bounds-self-from-in-Erase
+bounds-self-from-in-Erase c = let possible = rw c.in-Erase.is at c.requires in omega (arith, length_bank c.args.self.now.records.now)

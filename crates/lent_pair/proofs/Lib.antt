@@ -1,5 +1,0 @@
-mod Calls
-mod Firsts
-mod Halves
-mod Joins
-mod Outcomes

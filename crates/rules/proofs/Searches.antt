@@ -1,0 +1,29 @@
+-- A search over the places of a list, from the first on, finds the first place that passes. Assumes nothing.
+use Rattle.std.proofs.Common.{◌≡◌, ℕ, zero, suc, ◌<◌, ◌≤◌, Bool, true, false, List, [], ◌∷◌, length, get_or, Some, None, Option, arith}
+use Rattle.std.proofs.lemmas.Bool.Decides.{nat_tests}
+use Rattle.std.proofs.lemmas.Grind.{common_steps}
+use Rattle.std.specs.Option.{MatchOption}
+use Rattle.rules.specs.Slots.{first_place, place_within}
+
+module _ {X : Type 0} (passes : X → Bool) (d : X) where
+  -- each place below this one fails
+  abbrev Failing : List X → ℕ → Type 0
+  Failing xs end = (place : ℕ) → 0 ≤ place → place < end → passes (get_or xs place d) ≡ false
+
+  later : (x : X) (xs : List X) (end : ℕ) → Failing (x ∷ xs) (suc end) → Failing xs end
+  later x xs end failing place low below = failing (suc place) (omega arith) (omega arith)
+
+  none_first : (xs : List X) → Failing xs (length xs) → first_place passes xs ≡ length xs
+  none_first [] failing = omega arith
+  none_first (x ∷ xs) failing = grind (arith, common_steps, nat_tests, failing 0 (omega arith) (omega arith), none_first xs (later x xs (length xs) failing))
+
+  found_first : (xs : List X) (place : ℕ) → place < length xs → passes (get_or xs place d) ≡ true → Failing xs place → first_place passes xs ≡ place
+  found_first [] place below passing failing = absurd (omega arith)
+  found_first (x ∷ xs) zero below passing failing = grind (arith, common_steps, nat_tests)
+  found_first (x ∷ xs) (suc place) below passing failing =
+      grind (arith, common_steps, nat_tests, failing 0 (omega arith) (omega arith), found_first xs place (omega arith) passing (later x xs place failing))
+
+  pub first_found : (xs : List X) (found : Option ℕ) → MatchOption found (Failing xs (length xs)) (λ place. (0 ≤ place) × (place < length xs) × (passes (get_or xs place d) ≡ true) × Failing xs place)
+      → found ≡ place_within (length xs) (first_place passes xs)
+  first_found xs None failing = grind (arith, common_steps, nat_tests, none_first xs failing)
+  first_found xs (Some place) is = grind (arith, common_steps, nat_tests, found_first xs place is.1 is.2 is.3)

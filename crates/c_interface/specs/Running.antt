@@ -10,6 +10,8 @@ use Rattle.shifting.specs.Slots.{Slot}
 use Rattle.shifting.specs.Machine.{Fixed}
 use Rattle.turns.specs.Shown.{fixed_by}
 use Rattle.order_run.specs.Running.{Ran}
+use Rattle.c_interface.specs.declared.running.Failure.{Failure}
+use Rattle.c_interface.specs.declared.running.Failure.TheVariants.{Long, Short, Memory}
 
 -- the longest order file, in bytes
 abbrev pub longest : ℕ
@@ -31,6 +33,16 @@ short = negsuc 1
 
 abbrev pub no_memory : ℤ
 no_memory = negsuc 2
+
+-- a failure as C has it, and a run's answer
+abbrev pub code : Failure → ℤ
+code Long = long
+code Short = short
+code Memory = no_memory
+
+abbrev pub answered : Result ℤ Failure → ℤ
+answered (Ok length) = length
+answered (Err failure) = code failure
 
 -- the bytes of a run's lines, or that memory failed for them
 abbrev pub Text : Type 0

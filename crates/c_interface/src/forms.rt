@@ -46,55 +46,44 @@ fn telling(refusal: u32, value: u32, number: u16) -> AnswerRecord
 pub(crate) fn refused(refusal: Refusal) -> AnswerRecord
     ensures { result ≡ telling (number refusal) 0 0 }
 {
-    telling(refusal.number() as u32, 0, 0)
+    telling(u32::from(refusal.number()), 0, 0)
 }
 
 pub(crate) fn opened(res: Result<Named, Refusal>) -> AnswerRecord
     ensures { result ≡ told_by (opening res) }
 {
-    match res {
-        Ok(ticket) => AnswerRecord {
+    res.map_or_else(
+        refused,
+        |ticket| AnswerRecord {
             refusal: 0,
-            value: ticket.length as u32,
+            value: u32::from(ticket.length),
             number: 0,
             ticket,
         },
-        Err(refusal) => refused(refusal),
-    }
+    )
 }
 
 pub(crate) fn counted(res: Result<u16, Refusal>) -> AnswerRecord
     ensures { result ≡ told_by (counting res) }
 {
-    match res {
-        Ok(count) => telling(0, count as u32, 0),
-        Err(refusal) => refused(refusal),
-    }
+    res.map_or_else(refused, |count| telling(0, u32::from(count), 0))
 }
 
 pub(crate) fn done(res: Result<(), Refusal>) -> AnswerRecord
     ensures { result ≡ told_by (doing res) }
 {
-    match res {
-        Ok(()) => telling(0, 0, 0),
-        Err(refusal) => refused(refusal),
-    }
+    res.map_or_else(refused, |()| telling(0, 0, 0))
 }
 
 fn winner(told: Option<(u16, u32)>) -> AnswerRecord
     ensures { result ≡ told_by (found told) }
 {
-    match told {
-        Some((rule, action)) => telling(0, action, rule),
-        None => telling(0, 0, 0),
-    }
+    let (rule, action) = told.unwrap_or((0, 0));
+    telling(0, action, rule)
 }
 
 pub(crate) fn found(res: Result<Option<(u16, u32)>, Refusal>) -> AnswerRecord
     ensures { result ≡ told_by (finding res) }
 {
-    match res {
-        Ok(told) => winner(told),
-        Err(refusal) => refused(refusal),
-    }
+    res.map_or_else(refused, winner)
 }

@@ -1,10 +1,8 @@
 // Runs an order file: reads it from the standard input and prints the lines that tell the board's answers.
 #![tactic(auto)]
 
-mod input;
-
 use dial_run::printed;
-use input::read_input;
+use order_reader::read_input;
 
 fn main(rt: HostRuntime) -> anyhow::Result<()> {
     run(&rt)
@@ -15,6 +13,3 @@ fn run(rt: &HostRuntime) -> anyhow::Result<()> {
     rt.print(printed(rt.alloc(), input.as_slice())?)?;
     Ok(())
 }
-
-#[cfg(test)]
-mod tests;

@@ -7,6 +7,7 @@ ghost use Rattle.order_run.specs.Running.{Ran};
 ghost use Rattle.dial_run.specs.Exchange.{dial_board, lines_on_six, printed};
 
 use kinds::Dial;
+use order_reader::LONGEST;
 use order_run::run_orders;
 use record_bank::RecordBank;
 use rules::Rule;
@@ -20,9 +21,6 @@ const BOARD: u16 = 1;
 
 // Slots of the exchange's own board.
 const SLOTS: usize = 6;
-
-// The longest order file that is run, in bytes.
-const LONGEST: usize = 32_768;
 
 // The caller's records are the slots; the lines tell the answers.
 pub fn run_dial_orders(

@@ -3,7 +3,7 @@
 
 mod input;
 
-use input::read_input;
+use input::whole_input;
 use order_reader::read_orders;
 use order_text::{ending_line, order_line};
 
@@ -12,13 +12,11 @@ fn main(rt: HostRuntime) -> anyhow::Result<()> {
 }
 
 fn run(rt: &HostRuntime) -> anyhow::Result<()> {
-    match read_input(rt.alloc(), rt.stdin())? {
-        Some(bytes) => check(rt, bytes.as_slice()),
-        None => {
-            rt.println("long")?;
-            Ok(())
-        }
-    }
+    let Some(bytes) = whole_input(rt.alloc(), rt.stdin())? else {
+        rt.println("long")?;
+        return Ok(());
+    };
+    check(rt, bytes.as_slice())
 }
 
 fn check(rt: &HostRuntime, bytes: &[u8]) -> anyhow::Result<()> {

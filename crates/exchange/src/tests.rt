@@ -1,5 +1,5 @@
 // The limit of the input, from a source that gives it in two parts as a pipe may.
-use crate::input::read_input;
+use crate::input::whole_input;
 use std::alloc::Global;
 use std::io::Read;
 use std::test::Fail;
@@ -7,10 +7,8 @@ use std::test::Fail;
 fn length_read(heap: Global, first: usize, second: usize) -> Result<Option<usize>, Fail> {
     let front = vec![in heap; b'K'; first]?;
     let back = vec![in heap; b'T'; second]?;
-    match read_input(heap, front.as_slice().chain(back.as_slice()))? {
-        Some(bytes) => Ok(Some(bytes.len())),
-        None => Ok(None),
-    }
+    let input = whole_input(heap, front.as_slice().chain(back.as_slice()))?;
+    Ok(input.map(|bytes| bytes.len()))
 }
 
 #[test]

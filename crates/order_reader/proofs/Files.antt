@@ -1,13 +1,11 @@
 -- What one turn of reading a file keeps. Assumes nothing.
-use Rattle.std.proofs.Common.{◌≡◌, ℕ, zero, suc, ◌+◌, ◌≤◌, List, [], ◌∷◌, ◌++◌, length, drop, sym, refl, ap, ◌∙◌, subst, append_assoc, arith, take-append-drop}
+use Rattle.std.proofs.Common.{◌≡◌, ℕ, zero, suc, ◌+◌, ◌≤◌, List, [], ◌∷◌, ◌++◌, length, drop, Ok, Err, sym, refl, ap, ◌∙◌, subst, append_assoc, arith, take-append-drop}
 use Rattle.std.specs.List.{flat_map}
 use Rattle.std.proofs.lemmas.List.{flat_map_more, drop-drop, length-drop, append-nil}
-use Rattle.order_reader.specs.declared.ending.Ending.{Ending}
-use Rattle.order_reader.specs.declared.ending.Ending.TheVariants.{End, Damaged}
 use Rattle.orders.specs.Layout.{front, end, whole}
 use Rattle.orders.specs.Orders.{Entry}
 use Rattle.order_reader.specs.Reading.{entry_at}
-use Rattle.order_reader.specs.File.{Cut, after, cut_by, cut_from, cut_file, front_of, Reads}
+use Rattle.order_reader.specs.File.{Ending, Cut, after, cut_by, cut_from, cut_file, front_of, Reads}
 use Rattle.order_reader.proofs.Fronts.{front_none, whole_fits}
 
 abbrev bytes : Entry → List ℕ
@@ -56,13 +54,13 @@ one_more input entries offset entry size sofar found is =
     }
 
 stop_by : (ending : Ending) (place : ℕ) (left : List ℕ) (rest : ℕ → Cut) → cut_by (front_of ending) place left rest ≡ stopped place ending
-stop_by End place left rest = refl
-stop_by (Damaged refusal) place left rest = refl
+stop_by (Ok tt) place left rest = refl
+stop_by (Err refusal) place left rest = refl
 
 -- with no turn left there are no bytes, and nothing is damaged
 cut_stop : (turns place : ℕ) (left : List ℕ) (ending : Ending) → length left ≤ turns → front left ≡ front_of ending → cut_from turns place left ≡ stopped place ending
-cut_stop zero place left End few e = refl
-cut_stop zero place left (Damaged refusal) few e =
+cut_stop zero place left (Ok tt) few e = refl
+cut_stop zero place left (Err refusal) few e =
     let none : front left ≡ end = front_none left (omega arith) in
     absurd (let z : ◌≡◌ {A = ℕ} 0 1 = cc in omega arith)
 cut_stop (suc turns) place left ending few e =

@@ -1,5 +1,5 @@
 -- What stands at the front of a list of bytes, read by places. Assumes nothing.
-use Rattle.std.proofs.Common.{◌≡◌, ℕ, ◌+◌, ◌-◌, ◌≤◌, Bool, true, cond, ◌&&◌, eqb, leb, List, [], ◌∷◌, length, get_or, ap, ◌∙◌, subst, arith}
+use Rattle.std.proofs.Common.{◌≡◌, ℕ, ◌+◌, ◌≤◌, Bool, cond, ◌&&◌, eqb, leb, List, [], ◌∷◌, length, ap, subst, arith}
 use Rattle.std.proofs.lemmas.Bool.{le-leb, leb-true, cond-true, cond_both}
 use Rattle.std.proofs.lemmas.List.{nil_from_length}
 use Rattle.rules.specs.declared.refusal.Refusal.TheVariants.{CutShort}
@@ -7,14 +7,6 @@ use Rattle.orders.specs.Layout.{Front, front, end, whole, damaged, with_body, le
 
 pub front_none : (left : List ℕ) → length left ≡ 0 → front left ≡ end
 front_none left e = ap front (nil_from_length left e)
-
-pub front_marked : (left : List ℕ) → 3 ≤ length left → (eqb (get_or left 0 0) 0x4B && eqb (get_or left 1 0) 0x54) ≡ true → front left ≡ lettered (get_or left 2 0) (length left - 3)
-front_marked [] h mark = absurd (omega arith)
-front_marked (a ∷ []) h mark = absurd (omega arith)
-front_marked (a ∷ b ∷ []) h mark = absurd (omega arith)
-front_marked (a ∷ b ∷ letter ∷ body) h mark =
-    let rest : length body ≡ length (a ∷ b ∷ letter ∷ body) - 3 = omega arith in
-    cond-true (eqb a 0x4B && eqb b 0x54) _ _ mark ∙ ap (lettered letter) rest
 
 pub whole_body : (body left : ℕ) → body ≤ left → with_body body left ≡ whole (3 + body)
 whole_body body left h = cond-true (leb body left) _ _ (le-leb body left h)

@@ -1,12 +1,15 @@
 -- A whole file, cut into its orders. Assumes nothing.
-use Rattle.std.specs.Prelude.{◌≡◌, ℕ, zero, suc, ◌+◌, List, [], ◌∷◌, ◌++◌, map, length, drop, vec_items}
+use Rattle.std.specs.Prelude.{◌≡◌, ℕ, zero, suc, ◌+◌, List, [], ◌∷◌, ◌++◌, map, length, drop, Ok, Err, Result, vec_items}
 use Rattle.std.specs.List.{flat_map}
-use Rattle.order_reader.specs.declared.ending.Ending.{Ending}
-use Rattle.order_reader.specs.declared.ending.Ending.TheVariants.{End, Damaged}
+use Rattle.rules.specs.declared.refusal.Refusal.{Refusal}
 use Rattle.order_reader.specs.declared.listing.Listing.{Listing}
 use Rattle.orders.specs.Layout.{Front, front, end, whole, damaged}
 use Rattle.orders.specs.Orders.{Entry, entry_of}
 use Rattle.order_reader.specs.Reading.{entry_at}
+
+-- how reading ends: nothing is left, or an order is refused
+abbrev pub Ending : Type 0
+Ending = Result (Unit {0}) Refusal
 
 -- the orders of a file, the place where reading ends, and how it ends
 pub record Cut : Type 0 where
@@ -19,21 +22,21 @@ after entry cut = record { entries = entry ∷ cut.entries; place = cut.place; e
 
 -- by what stands at the front: an order, and then the rest, or the end of reading
 abbrev pub cut_by : Front → (place : ℕ) (left : List ℕ) (rest : ℕ → Cut) → Cut
-cut_by end place left rest = record { entries = []; place = place; ending = End }
+cut_by end place left rest = record { entries = []; place = place; ending = Ok tt }
 cut_by (whole size) place left rest = after (entry_at place left size) (rest size)
-cut_by (damaged refusal) place left rest = record { entries = []; place = place; ending = Damaged refusal }
+cut_by (damaged refusal) place left rest = record { entries = []; place = place; ending = Err refusal }
 
 -- what is left of a file, from a place on: no order is empty, so there are no more turns than bytes
 abbrev pub cut_from : (turns place : ℕ) (left : List ℕ) → Cut
-cut_from zero place left = record { entries = []; place = place; ending = End }
+cut_from zero place left = record { entries = []; place = place; ending = Ok tt }
 cut_from (suc turns) place left = cut_by (front left) place left (λ size. cut_from turns (place + size) (drop size left))
 
 abbrev pub cut_file : List ℕ → Cut
 cut_file input = cut_from (length input) 0 input
 
 abbrev pub front_of : Ending → Front
-front_of End = end
-front_of (Damaged refusal) = damaged refusal
+front_of (Ok tt) = end
+front_of (Err refusal) = damaged refusal
 
 -- what reading a whole file gives
 pub record Reads (input : List ℕ) (found : Cut) : Type 0 where

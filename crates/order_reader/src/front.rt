@@ -12,20 +12,9 @@ pub(crate) fn first_order<'a>(left: &'a [u8], place: usize) -> Option<Result<Ord
     match left {
         [] => None,
         [_] | [_, _] => Some(Err(Refusal::CutShort)),
-        [first, second, letter, ..] => {
-            if is_mark(*first, *second) {
-                Some(order_by_letter(*letter, left, place))
-            } else {
-                Some(Err(Refusal::Unmarked))
-            }
-        }
+        [b'K', b'T', letter, ..] => Some(order_by_letter(*letter, left, place)),
+        _ => Some(Err(Refusal::Unmarked)),
     }
-}
-
-fn is_mark(first: u8, second: u8) -> bool
-    ensures { result ≡ (first == 0x4B && second == 0x54) }
-{
-    first == 0x4b && second == 0x54
 }
 
 // The order that follows its mark.
@@ -50,8 +39,6 @@ fn cut<'a, const LENGTH: usize>(left: &'a [u8], place: usize) -> Result<Part<'a,
     requires { LENGTH ≤ 27 }
     ensures { Cuts LENGTH place left.now result }
 {
-    match left.first_chunk::<LENGTH>() {
-        Some(bytes) => Ok(Part { place, bytes }),
-        None => Err(Refusal::CutShort),
-    }
+    let bytes = left.first_chunk().ok_or(Refusal::CutShort)?;
+    Ok(Part { place, bytes })
 }

@@ -1,12 +1,12 @@
 // Order files, read along the caller's bytes without a copy.
 #![tactic(auto)]
 
-mod ending;
 mod front;
+mod input;
 mod listing;
 mod reader;
 
-pub use ending::Ending;
+pub use input::{LONGEST, read_input};
 pub use listing::{Listing, read_orders};
 pub use reader::Reader;
 

@@ -2,17 +2,17 @@
 ghost use Rattle.std.specs.Prelude.{◌≡◌, IfOk};
 ghost use Rattle.order_reader.specs.File.{Reads, cut_of};
 
-use crate::ending::Ending;
 use crate::reader::Reader;
 use orders::Order;
+use rules::Refusal;
 use std::alloc::{AllocError, Global};
 
-// The orders in the file's own order, the place where reading ended, and how.
+// The orders in the file's own order, the place where reading ended, and why: nothing is left, or the order there is refused.
 #[derive(Drop)]
 pub struct Listing<'a> {
     pub orders: Vec<Order<'a>>,
     pub place: usize,
-    pub ending: Ending,
+    pub ending: Result<(), Refusal>,
 }
 
 pub fn read_orders<'a>(heap: Global, input: &'a [u8]) -> Result<Listing<'a>, AllocError>
@@ -22,24 +22,15 @@ pub fn read_orders<'a>(heap: Global, input: &'a [u8]) -> Result<Listing<'a>, All
     let mut reader = Reader::new(input);
     let ending = loop {
         match reader.next_order() {
-            Some(outcome) => match outcome {
-                Ok(order) => orders.push(order)?,
-                Err(refusal) => break Ending::Damaged(refusal),
-            },
-            None => break Ending::End,
+            Some(Ok(order)) => orders.push(order)?,
+            Some(Err(refusal)) => break Err(refusal),
+            None => break Ok(()),
         }
     };
-    Ok(listed(orders, reader.offset(), ending))
-}
-
-fn listed(orders: Vec<Order>, place: usize, ending: Ending) -> Listing
-    ensures orders { result.orders.items ≡ orders.entry.items }
-    ensures place { result.place ≡ place }
-    ensures ending { result.ending ≡ ending }
-{
-    Listing {
+    let place = reader.offset();
+    Ok(Listing {
         orders,
         place,
         ending,
-    }
+    })
 }

@@ -1,9 +1,10 @@
-// Whole files, damaged files, and files cut at each place.
-use crate::ending::Ending;
+// Whole files, damaged files, files cut at each place, and an input that comes in parts.
+use crate::input::read_input;
 use crate::listing::read_orders;
 use orders::Order;
 use rules::Refusal;
 use std::alloc::{AllocError, Global};
+use std::io::Read;
 use std::process::Abort;
 use std::test::Fail;
 
@@ -23,7 +24,7 @@ fn reads(
     bytes: &[u8],
     orders: usize,
     place: usize,
-    ending: Ending,
+    ending: Result<(), Refusal>,
 ) -> Result<(), Fail> {
     let listing = read_orders(heap, bytes)?;
     assert_eq!(rt; listing.orders.len(), orders);
@@ -84,27 +85,13 @@ fn fields(rt: HostRuntime) -> Result<(), Fail> {
 #[test]
 fn short_files(rt: HostRuntime) -> Result<(), Fail> {
     let heap = rt.alloc();
-    reads(&rt, heap, b"", 0, 0, Ending::End)?;
-    reads(&rt, heap, b"K", 0, 0, Ending::Damaged(Refusal::CutShort))?;
-    reads(&rt, heap, b"xy", 0, 0, Ending::Damaged(Refusal::CutShort))?;
-    reads(&rt, heap, b"KTA", 0, 0, Ending::Damaged(Refusal::CutShort))?;
-    reads(
-        &rt,
-        heap,
-        b"KTZ",
-        0,
-        0,
-        Ending::Damaged(Refusal::StrangeLetter),
-    )?;
-    reads(&rt, heap, b"KUZ", 0, 0, Ending::Damaged(Refusal::Unmarked))?;
-    reads(
-        &rt,
-        heap,
-        b"KTSKTEKT",
-        2,
-        6,
-        Ending::Damaged(Refusal::CutShort),
-    )
+    reads(&rt, heap, b"", 0, 0, Ok(()))?;
+    reads(&rt, heap, b"K", 0, 0, Err(Refusal::CutShort))?;
+    reads(&rt, heap, b"xy", 0, 0, Err(Refusal::CutShort))?;
+    reads(&rt, heap, b"KTA", 0, 0, Err(Refusal::CutShort))?;
+    reads(&rt, heap, b"KTZ", 0, 0, Err(Refusal::StrangeLetter))?;
+    reads(&rt, heap, b"KUZ", 0, 0, Err(Refusal::Unmarked))?;
+    reads(&rt, heap, b"KTSKTEKT", 2, 6, Err(Refusal::CutShort))
 }
 
 // Each order whole, and without its last byte.
@@ -125,16 +112,9 @@ fn cut_bodies(rt: HostRuntime) -> Result<(), Fail> {
         bytes.push(letter)?;
         bytes.extend_from_slice(&[0u8; 24])?;
         bytes.truncate(size);
-        reads(&rt, heap, bytes.as_slice(), 1, size, Ending::End)?;
+        reads(&rt, heap, bytes.as_slice(), 1, size, Ok(()))?;
         let _ = bytes.pop();
-        reads(
-            &rt,
-            heap,
-            bytes.as_slice(),
-            0,
-            0,
-            Ending::Damaged(Refusal::CutShort),
-        )?;
+        reads(&rt, heap, bytes.as_slice(), 0, 0, Err(Refusal::CutShort))?;
     }
     Ok(())
 }
@@ -147,7 +127,7 @@ fn longest_file(rt: HostRuntime) -> Result<(), Fail> {
     for _ in 0..10_922u32 {
         bytes.extend_from_slice(b"KTS")?;
     }
-    reads(&rt, heap, bytes.as_slice(), 10_922, 32_766, Ending::End)?;
+    reads(&rt, heap, bytes.as_slice(), 10_922, 32_766, Ok(()))?;
     bytes.extend_from_slice(b"KT")?;
     reads(
         &rt,
@@ -155,6 +135,31 @@ fn longest_file(rt: HostRuntime) -> Result<(), Fail> {
         bytes.as_slice(),
         10_922,
         32_766,
-        Ending::Damaged(Refusal::CutShort),
+        Err(Refusal::CutShort),
     )
+}
+
+// From a source that gives it in two parts, as a pipe may.
+fn length_read(heap: Global, first: usize, second: usize) -> Result<usize, Fail> {
+    let front = vec![in heap; b'K'; first]?;
+    let back = vec![in heap; b'T'; second]?;
+    let bytes = read_input(heap, front.as_slice().chain(back.as_slice()))?;
+    Ok(bytes.len())
+}
+
+#[test]
+fn input_within_the_limit_is_read_whole(rt: HostRuntime) -> Result<(), Fail> {
+    let heap = rt.alloc();
+    assert_eq!(rt; length_read(heap, 0, 0)?, 0);
+    assert_eq!(rt; length_read(heap, 3, 24)?, 27);
+    assert_eq!(rt; length_read(heap, 32_000, 768)?, 32_768);
+    Ok(())
+}
+
+#[test]
+fn of_longer_input_one_byte_more_is_read(rt: HostRuntime) -> Result<(), Fail> {
+    let heap = rt.alloc();
+    assert_eq!(rt; length_read(heap, 32_768, 1)?, 32_769);
+    assert_eq!(rt; length_read(heap, 1, 70_000)?, 32_769);
+    Ok(())
 }

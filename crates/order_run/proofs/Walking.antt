@@ -11,8 +11,7 @@ use Rattle.lent_board.specs.Calls.{call_of}
 use Rattle.lent_board.specs.Serving.{Past, state_of, answer_to, one_more}
 use Rattle.orders.specs.Layout.{front, whole}
 use Rattle.orders.specs.Orders.{Entry}
-use Rattle.order_reader.specs.declared.ending.Ending.{Ending}
-use Rattle.order_reader.specs.File.{Cut, cut_file, front_of}
+use Rattle.order_reader.specs.File.{Ending, Cut, cut_file, front_of}
 use Rattle.order_reader.proofs.Files.{Sofar}
 use Rattle.order_reader.proofs.Files.{done as read_whole}
 use Rattle.order_reader.proofs.Files.{one_more as read_more}

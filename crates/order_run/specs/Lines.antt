@@ -1,5 +1,6 @@
 -- The lines of a run: a letter, a place, the refusal number or 0, and a value, one space apart. Assumes nothing.
-use Rattle.std.specs.Prelude.{◌≡◌, ℕ, List, ◌∷◌, ◌++◌, Some, None, codes, decimal, Option}
+use Rattle.std.specs.Prelude.{◌≡◌, ℕ, List, ◌∷◌, ◌++◌, Some, None, Ok, Err, codes, decimal, Option, Result}
+use Rattle.rules.specs.declared.refusal.Refusal.{Refusal}
 use Rattle.rules.specs.Refusals.{number}
 use Rattle.shifting.specs.Machine.{Answer, opened, counted, done, found, refused}
 
@@ -34,6 +35,15 @@ line letter place refusal value =
 -- what an order's line tells of the answer to its call
 abbrev pub answer_line : (letter place : ℕ) → Answer → List ℕ
 answer_line letter place answer = line letter place (refusal_in answer) (value_in answer)
+
+-- a value, or a refusal: its number is told in place of 0, and the value is then 0
+abbrev pub number_told : Result (Option ℕ) Refusal → ℕ
+number_told (Ok value) = 0
+number_told (Err refusal) = number refusal
+
+abbrev pub value_told : Result (Option ℕ) Refusal → Option ℕ
+value_told (Ok value) = value
+value_told (Err refusal) = Some 0
 
 -- a refusal number and a value, as a line tells an answer
 pub record Tells (answer : Answer) (refusal : ℕ) (value : Option ℕ) : Type 0 where

@@ -1,5 +1,5 @@
 -- An order file run on the machine: the calls that its orders make, and the lines that tell the answers. Assumes nothing.
-use Rattle.std.specs.Prelude.{◌≡◌, ℕ, cond, List, [], ◌∷◌, ◌++◌, IfOk, Some, None, Option, Result, ◌==◌}
+use Rattle.std.specs.Prelude.{◌≡◌, ℕ, cond, List, [], ◌∷◌, ◌++◌, IfOk, Some, None, Ok, Err, Option, Result, ◌==◌}
 use Rattle.rules.specs.declared.rule.Rule.{Rule}
 use Rattle.rules.specs.declared.event.Event.{Event}
 use Rattle.rules.specs.declared.refusal.Refusal.TheVariants.{Foreign}
@@ -13,9 +13,7 @@ use Rattle.turns.specs.Shown.{fixed_by}
 use Rattle.lent_board.specs.Calls.{on_refusal}
 use Rattle.orders.specs.Layout.{number_in, priority_in, new_action_in, other_action_in, word_a_in, word_b_in, subject_in}
 use Rattle.orders.specs.Orders.{Entry}
-use Rattle.order_reader.specs.declared.ending.Ending.{Ending}
-use Rattle.order_reader.specs.declared.ending.Ending.TheVariants.{End, Damaged}
-use Rattle.order_reader.specs.File.{cut_file}
+use Rattle.order_reader.specs.File.{Ending, cut_file}
 use Rattle.order_run.specs.Lines.{answer_line}
 
 -- Orders as calls.
@@ -70,8 +68,8 @@ begun = record { calls = []; ticket = None; text = [] }
 
 -- a damaged order has a line of its own, with a question mark for its letter
 abbrev pub ending_line : (place : ℕ) → Ending → List ℕ
-ending_line place End = []
-ending_line place (Damaged refusal) = answer_line 0x3F place (refused refusal)
+ending_line place (Ok tt) = []
+ending_line place (Err refusal) = answer_line 0x3F place (refused refusal)
 
 -- a ticket that is open at the end is withdrawn without a line
 abbrev pub closing : Option Ticket → List Call

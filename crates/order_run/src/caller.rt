@@ -19,10 +19,7 @@ impl Stage {
     pub(crate) fn is_reading(self) -> bool
         ensures { result ≡ is_reading self }
     {
-        match self {
-            Stage::Reading => true,
-            Stage::Ended | Stage::Failed => false,
-        }
+        matches!(self, Stage::Reading)
     }
 }
 

@@ -3,28 +3,29 @@ ghost use Rattle.std.specs.Prelude.{◌≡◌, suc, ◌<◌, ◌≤◌, false, �
 ghost use Rattle.orders.specs.Orders.{entry_of};
 ghost use Rattle.lent_board.specs.Serving.{Past, Asks, Fewer};
 ghost use Rattle.order_run.specs.declared.caller.Stage.TheVariants.{Reading};
-ghost use Rattle.order_run.specs.Lines.{line};
+ghost use Rattle.order_run.specs.Lines.{line, number_told, value_told};
 ghost use Rattle.order_run.specs.Calling.{Unless, Holds, HoldsWith, Waits, Ends, Bytes, open_ends, calls_left, turns_left, Falls, is_reading};
 
 use crate::caller::{Head, OrderCaller, Stage};
 use crate::keeping::{call_for, keep};
-use crate::lines::{Reply, write_line};
+use crate::lines::{Reply, reply_to, write_line};
 use lent_board::{Answer, Call, Caller};
 use orders::Order;
+use rules::Refusal;
 
 // Writes a line; the stage is then the one given, or that memory failed.
 fn told(stage: Stage, text: &mut String, head: Head, reply: Reply) -> Stage
     requires { head.letter < 128 }
-    ensures { Unless result ((result ≡ stage) × (string_bytes text.new ≡ string_bytes text.old ++ line head.letter head.place reply.refusal reply.value)) }
+    ensures { Unless result ((result ≡ stage) × (string_bytes text.new ≡ string_bytes text.old ++ line head.letter head.place (number_told reply) (value_told reply))) }
 {
-    match write_line(text, head.letter, head.place, reply) {
+    match write_line(text, head, reply) {
         Ok(()) => stage,
         Err(_) => Stage::Failed,
     }
 }
 
 impl<'a> OrderCaller<'a> {
-    // An order makes its call; one that has no ticket to bring has its line.
+    // An order makes its call; one that has no ticket to bring has its line, and is refused there as a foreign ticket is.
     fn one_order(&mut self, order: &Order) -> Option<Call>
         ensures asks { (before : Past) → HoldsWith self.old before (entry_of order.now) → Asks Waits Holds self.new before result }
         ensures reader { self.new.reader ≡ self.old.reader }
@@ -37,7 +38,7 @@ impl<'a> OrderCaller<'a> {
                 Some(call)
             },
             None => {
-                self.stage = told(self.stage, &mut self.text, head, Reply::no_ticket());
+                self.stage = told(self.stage, &mut self.text, head, Err(Refusal::Foreign));
                 None
             },
         }
@@ -51,13 +52,11 @@ impl<'a> OrderCaller<'a> {
         ensures turns { self.old.stage ≡ Reading → turns_left self.new < turns_left self.old }
     {
         match self.reader.next_order() {
-            Some(outcome) => match outcome {
-                Ok(order) => self.one_order(&order),
-                Err(refusal) => {
-                    let head = Head::damaged(self.reader.offset());
-                    self.stage = told(Stage::Ended, &mut self.text, head, Reply::refused(refusal));
-                    None
-                },
+            Some(Ok(order)) => self.one_order(&order),
+            Some(Err(refusal)) => {
+                let head = Head::damaged(self.reader.offset());
+                self.stage = told(Stage::Ended, &mut self.text, head, Err(refusal));
+                None
             },
             None => {
                 self.stage = Stage::Ended;
@@ -72,10 +71,7 @@ impl<'a> OrderCaller<'a> {
         ensures reader { self.new.reader ≡ self.old.reader }
         ensures fewer { Fewer (calls_left self.old) (calls_left self.new) result }
     {
-        match self.ticket.take() {
-            Some(ticket) => Some(Call::Withdraw(ticket)),
-            None => None,
-        }
+        self.ticket.take().map(Call::Withdraw)
     }
 }
 
@@ -94,20 +90,18 @@ impl<'a> Caller for OrderCaller<'a> {
 
     fn next(&mut self) -> Option<Call> {
         while self.stage.is_reading() {
-            match self.read_on() {
-                Some(call) => return Some(call),
-                None => (),
+            if let Some(call) = self.read_on() {
+                return Some(call);
             }
         }
         self.close()
     }
 
     fn hear(&mut self, answer: Answer) {
-        let reply = Reply::of(&answer);
+        let reply = reply_to(&answer);
         keep(&mut self.ticket, answer);
-        match self.head.take() {
-            Some(head) => self.stage = told(self.stage, &mut self.text, head, reply),
-            None => (),
+        if let Some(head) = self.head.take() {
+            self.stage = told(self.stage, &mut self.text, head, reply);
         }
     }
 }

@@ -30,18 +30,9 @@ pub(crate) fn call_for(order: &Order, hand: &mut Option<Ticket>) -> Option<Call>
         Order::Drop(drop) => Some(Call::DropRule(drop.number())),
         Order::Change(change) => Some(Call::ChangeAction(change.number(), change.action())),
         Order::LookUp(look_up) => Some(Call::LookUp(look_up.subject())),
-        Order::Step(_) => match hand.take() {
-            Some(ticket) => Some(Call::Step(ticket)),
-            None => None,
-        },
-        Order::Complete(_) => match hand.take() {
-            Some(ticket) => Some(Call::Complete(ticket)),
-            None => None,
-        },
-        Order::Withdraw(_) => match hand.take() {
-            Some(ticket) => Some(Call::Withdraw(ticket)),
-            None => None,
-        },
+        Order::Step(_) => hand.take().map(Call::Step),
+        Order::Complete(_) => hand.take().map(Call::Complete),
+        Order::Withdraw(_) => hand.take().map(Call::Withdraw),
     }
 }
 

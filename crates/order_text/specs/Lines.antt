@@ -1,12 +1,11 @@
 -- The lines that people read. Assumes nothing.
-use Rattle.std.specs.Prelude.{ℕ, cond, List, ◌++◌, codes, decimal}
+use Rattle.std.specs.Prelude.{ℕ, cond, List, ◌++◌, Ok, Err, codes, decimal}
 use Rattle.kinds.specs.DialRules.{places, dial_meaning}
 use Rattle.rules.specs.Refusals.{number}
 use Rattle.orders.specs.declared.order.Order.{Order}
 use Rattle.orders.specs.declared.order.Order.TheVariants.{Add, Drop, Change, LookUp, Step, Complete, Withdraw}
 use Rattle.orders.specs.Layout.{number_in, priority_in, new_action_in, other_action_in, word_a_in, word_b_in, subject_in}
-use Rattle.order_reader.specs.declared.ending.Ending.{Ending}
-use Rattle.order_reader.specs.declared.ending.Ending.TheVariants.{End, Damaged}
+use Rattle.order_reader.specs.File.{Ending}
 use Rattle.order_text.specs.Signs.{signs_of, digits_of}
 
 -- a dial pattern by its signs
@@ -50,5 +49,5 @@ order_line (Withdraw part) = codes "W " ++ decimal part.place
 
 -- the last line of an order file: its end, or a damaged order with its place, its refusal and 0
 abbrev pub ending_line : (place : ℕ) → Ending → List ℕ
-ending_line place End = codes "end " ++ decimal place
-ending_line place (Damaged refusal) = codes "? " ++ (decimal place ++ (codes " " ++ (decimal (number refusal) ++ codes " 0")))
+ending_line place (Ok tt) = codes "end " ++ decimal place
+ending_line place (Err refusal) = codes "? " ++ (decimal place ++ (codes " " ++ (decimal (number refusal) ++ codes " 0")))

@@ -4,9 +4,8 @@ ghost use Rattle.order_text.specs.Lines.{words_text, subject_text, add_line, ord
 
 use crate::signs::{dial_signs, hexadecimal};
 use kinds::Dial;
-use order_reader::Ending;
 use orders::{AddOrder, Order};
-use rules::{Kind, Words};
+use rules::{Kind, Refusal, Words};
 use std::alloc::{AllocError, Global};
 
 // An order's letter, its place and its fields.
@@ -72,12 +71,16 @@ fn subject_text(heap: Global, subject: u64) -> Result<String, AllocError>
 }
 
 // The end of the file, or the damaged order at the place.
-pub fn ending_line(heap: Global, place: usize, ending: Ending) -> Result<String, AllocError>
+pub fn ending_line(
+    heap: Global,
+    place: usize,
+    ending: Result<(), Refusal>,
+) -> Result<String, AllocError>
     ensures { IfOk result (λ line. string_bytes line ≡ ending_line place ending) }
 {
     match ending {
-        Ending::End => format!(in heap; "end {place}"),
-        Ending::Damaged(refusal) => {
+        Ok(()) => format!(in heap; "end {place}"),
+        Err(refusal) => {
             let number = refusal.number();
             format!(in heap; "? {place} {number} 0")
         }

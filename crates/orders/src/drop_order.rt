@@ -2,7 +2,6 @@
 ghost use Rattle.std.specs.Prelude.{◌≡◌};
 ghost use Rattle.orders.specs.Layout.{number_in};
 
-use crate::number::big_endian;
 use crate::part::Part;
 
 #[derive(Clone, Copy)]
@@ -12,7 +11,6 @@ impl DropOrder<'_> {
     pub fn number(&self) -> u16
         ensures { result ≡ number_in self.now.0.bytes.now }
     {
-        let bytes = self.0.bytes;
-        big_endian(&bytes[3..5]) as u16
+        self.0.number()
     }
 }

@@ -5,7 +5,6 @@ mod add_order;
 mod change_order;
 mod drop_order;
 mod look_up_order;
-mod number;
 mod order;
 mod part;
 

@@ -1,8 +1,9 @@
 // An order to look a subject up.
+#![tactic(auto, using(crate::proofs::Numbers::eight_bytes))]
+
 ghost use Rattle.std.specs.Prelude.{◌≡◌};
 ghost use Rattle.orders.specs.Layout.{subject_in};
 
-use crate::number::big_endian;
 use crate::part::Part;
 
 #[derive(Clone, Copy)]
@@ -12,7 +13,6 @@ impl LookUpOrder<'_> {
     pub fn subject(&self) -> u64
         ensures { result ≡ subject_in self.now.0.bytes.now }
     {
-        let bytes = self.0.bytes;
-        big_endian(&bytes[3..11])
+        u64::from_be_bytes(self.0.field(3))
     }
 }

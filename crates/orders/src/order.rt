@@ -38,24 +38,26 @@ impl<'a> Order<'a> {
     pub fn place(&self) -> usize
         ensures { result ≡ place_of self.now }
     {
-        match self {
-            Order::Add(order) => order.0.place,
-            Order::Drop(order) => order.0.place,
-            Order::Change(order) => order.0.place,
-            Order::LookUp(order) => order.0.place,
-            Order::Step(part) | Order::Complete(part) | Order::Withdraw(part) => part.place,
-        }
+        self.shown().0
     }
 
     // All bytes of the order, mark and letter included.
     pub fn bytes(&self) -> &'a [u8]
         ensures { result.now ≡ bytes_of self.now }
     {
+        self.shown().1
+    }
+
+    // The part of the file that the order is, whatever its length.
+    fn shown(&self) -> (usize, &'a [u8])
+        ensures place { result.0 ≡ place_of self.now }
+        ensures bytes { result.1.now ≡ bytes_of self.now }
+    {
         match self {
-            Order::Add(order) => order.0.shown(),
-            Order::Drop(order) => order.0.shown(),
-            Order::Change(order) => order.0.shown(),
-            Order::LookUp(order) => order.0.shown(),
+            Order::Add(AddOrder(part)) => part.shown(),
+            Order::Drop(DropOrder(part)) => part.shown(),
+            Order::Change(ChangeOrder(part)) => part.shown(),
+            Order::LookUp(LookUpOrder(part)) => part.shown(),
             Order::Step(part) | Order::Complete(part) | Order::Withdraw(part) => part.shown(),
         }
     }

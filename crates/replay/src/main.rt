@@ -14,16 +14,13 @@ fn main(rt: HostRuntime) -> anyhow::Result<()> {
 
 // The arguments are the names of the files. Each is run as the program runs it, and one that was made for a packet board there too.
 fn run(rt: &HostRuntime) -> anyhow::Result<()> {
-    let mut tally = Tally::NONE;
+    let mut tally = Tally::default();
     for name in env::args(rt)?.skip(1) {
         tally.one_file();
         tally.one_run(rt, name.as_str(), replay_dial(rt, name.as_str())?)?;
-        match name.strip_prefix("packet_") {
-            Some(slots) => {
-                let slots = slots.parse::<usize>()?;
-                tally.one_run(rt, name.as_str(), replay_packet(rt, name.as_str(), slots)?)?;
-            }
-            None => (),
+        if let Some(slots) = name.strip_prefix("packet_") {
+            let slots = slots.parse::<usize>()?;
+            tally.one_run(rt, name.as_str(), replay_packet(rt, name.as_str(), slots)?)?;
         }
     }
     tally.tell(rt)

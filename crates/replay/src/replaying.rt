@@ -56,24 +56,19 @@ pub(crate) fn replay_packet(
 // The lines of a run, without those that tell the chip's words between them.
 fn without_words(heap: Global, text: &str) -> Result<String, AllocError> {
     let mut lines = String::new(heap);
-    for line in text.lines() {
-        if !line.starts_with("words ") {
-            lines.push_str(line)?;
-            lines.push('\n')?;
-        }
+    for line in text.lines().filter(|line| !line.starts_with("words ")) {
+        lines.push_str(line)?;
+        lines.push('\n')?;
     }
     Ok(lines)
 }
 
 // All words in order, the high byte of each first, in one number.
 fn hash(words: &[u64]) -> u64 {
-    let mut hash = START;
-    for word in words.iter() {
-        for byte in word.to_be_bytes() {
-            hash = (hash ^ u64::from(byte)).wrapping_mul(FACTOR);
-        }
-    }
-    hash
+    words.iter().flat_map(|word| word.to_be_bytes()).fold(
+        START,
+        |hash, byte| (hash ^ u64::from(byte)).wrapping_mul(FACTOR),
+    )
 }
 
 fn words_line(heap: Global, words: &[u64]) -> Result<String, AllocError> {

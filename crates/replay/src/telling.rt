@@ -5,26 +5,19 @@ use anyhow::anyhow;
 
 #[derive(Clone, Copy)]
 pub(crate) struct Replayed {
-    pub(crate) orders: u32,
+    pub(crate) orders: usize,
     pub(crate) same: bool,
 }
 
-#[derive(Clone, Copy)]
+#[derive(Clone, Copy, Default)]
 pub(crate) struct Tally {
     files: u32,
     runs: u32,
-    orders: u32,
+    orders: usize,
     differences: u32,
 }
 
 impl Tally {
-    pub(crate) const NONE: Tally = Tally {
-        files: 0,
-        runs: 0,
-        orders: 0,
-        differences: 0,
-    };
-
     pub(crate) fn one_file(&mut self) {
         self.files = self.files.saturating_add(1);
     }
@@ -60,12 +53,8 @@ impl Tally {
 }
 
 // A damaged order has a line of its own that is no order's, and so has a file that is too long.
-pub(crate) fn orders_told(text: &str) -> u32 {
-    let mut orders = 0u32;
-    for line in text.lines() {
-        if line != "long" && !line.starts_with("?") {
-            orders = orders.saturating_add(1);
-        }
-    }
-    orders
+pub(crate) fn orders_told(text: &str) -> usize {
+    text.lines()
+        .filter(|line| *line != "long" && !line.starts_with("?"))
+        .count()
 }

@@ -3,6 +3,7 @@ use Rattle.lent_board.specs.Calls.{call_of}
 use Rattle.orders.specs.Orders.{entry_of}
 use Rattle.order_run.specs.Calling.{named, asked, in_hand, WaitsFor, HoldsIn, Good, count}
 use Rattle.order_run.specs.Lines.{line, answer_line}
+use Rattle.rules.specs.Refusals.{number}
 use Rattle.rules.specs.declared.refusal.Refusal.TheVariants.{Foreign}
 use Rattle.shifting.specs.Machine.{refused}
 use Rattle.lent_board.specs.Serving.{state_of}
@@ -45,11 +46,10 @@ returns-in-None c =
     let text' = string_bytes c.told-self.new.text in
     let input = self.reader.input.now in
     let offset = self.reader.offset in
-    let reply = c.no_ticket.result in
     let head = c.of-head.result in
     let same : c.call_for.new.hand ≡ hand = c.in-None.ensures.hand in
-    let written : line head.letter head.place reply.refusal reply.value ≡ answer_line order.letter order.place (refused Foreign) =
-    line_told head.letter order.letter head.place order.place reply.refusal reply.value (refused Foreign) c.of-head.ensures.letter c.of-head.ensures.place c.no_ticket.ensures in
+    let written : line head.letter head.place (number Foreign) (Some 0) ≡ answer_line order.letter order.place (refused Foreign) =
+    line_told head.letter order.letter head.place order.place (number Foreign) (Some 0) (refused Foreign) c.of-head.ensures.letter c.of-head.ensures.place (record { refusal_is = refl; value_is = refl }) in
     record {
       asks = λ before on.
           record {

@@ -3,6 +3,7 @@ use Rattle.shifting.specs.Machine.{Call}
 use Rattle.lent_board.specs.Calls.{answer_of}
 use Rattle.lent_board.specs.Serving.{Past, Answers}
 use Rattle.order_run.specs.Calling.{named, count, Waits, WaitsFor}
+use Rattle.order_run.specs.Lines.{number_told, value_told}
 use Rattle.order_run.proofs.Hands.{at_most_one, named_none, heard_keeps, heard_good, last_heard}
 use Rattle.order_run.proofs.Walking.{hears, is_last, hears_last}
 use Rattle.order_run.proofs.calling.OrderCallerCaller.hear.Goals as goal
@@ -24,15 +25,15 @@ returns-in-Some c =
           record {
             idle = c.take.ensures.after;
             good = heard_good before call answer hand hand' waits.good answers kept;
-            told = hears before self.stage c.told-self.result input offset call head (answer_of answer) (named hand) (named hand') text (string_bytes c.told-self.new.text) c.of-reply.result.refusal c.of-reply.result.value
-                (subst (λ h. WaitsFor h self.stage before call input offset (named hand) text) awaited waits.told) answers.answered kept c.of-reply.ensures c.told-self.ensures;
+            told = hears before self.stage c.told-self.result input offset call head (answer_of answer) (named hand) (named hand') text (string_bytes c.told-self.new.text) (number_told c.reply_to-reply.result) (value_told c.reply_to-reply.result)
+                (subst (λ h. WaitsFor h self.stage before call input offset (named hand) text) awaited waits.told) answers.answered kept c.reply_to-reply.ensures c.told-self.ensures;
           };
       fewer = omega (arith, at_most_one hand', ap count awaited, ap count c.take.ensures.after);
       same = refl;
     }
 
-pub returns-in-None : goal.returns-in-None
-returns-in-None c =
+pub returns-in_default : goal.returns-in_default
+returns-in_default c =
     let self = c.args.self.now in
     let answer = c.args.answer in
     let hand = self.ticket in
@@ -40,7 +41,7 @@ returns-in-None c =
     let text = string_bytes self.text in
     let input = self.reader.input.now in
     let offset = self.reader.offset in
-    let awaited : self.head ≡ None = sym c.take.ensures.value ∙ c.in-None.is in
+    let awaited : self.head ≡ None = sym c.take.ensures.value ∙ c.in_default.is in
     let waited : (before : Past) (call : Call) → WaitsFor self.head self.stage before call input offset (named hand) text → WaitsFor None self.stage before call input offset (named hand) text =
     λ before call. subst (λ h. WaitsFor h self.stage before call input offset (named hand) text) awaited in
     let emptied : (before : Past) (call : Call) → Waits self before call → Answers before call answer → named hand' ≡ None =

@@ -1,13 +1,17 @@
 -- Why a new rule has no place, and the chain when it has one. Assumes nothing.
-use Rattle.std.proofs.Common.{◌≡◌, ℕ, suc, ◌+◌, true, false, cond, ltb, List, [], ◌∷◌, ◌++◌, length, Ok, Err, Result, sym, ap, ◌∙◌, append_assoc, arith}
+use Rattle.std.proofs.Common.{◌≡◌, ℕ, suc, ◌+◌, ◌-◌, Bool, true, false, cond, not, ltb, List, [], ◌∷◌, ◌++◌, length, is_some, Ok, Err, Option, Result, sym, ap, ◌∙◌, append_assoc, arith}
 use Rattle.std.proofs.lemmas.List.{length_push}
 use Rattle.std.proofs.lemmas.Bool.{cond-true, cond-false}
+use Rattle.std.proofs.Math.Bool.{not-not}
 use Rattle.rules.specs.declared.rule.Rule.{Rule}
 use Rattle.rules.specs.declared.refusal.Refusal.{Refusal}
 use Rattle.rules.specs.declared.refusal.Refusal.TheVariants.{Tied, Crossed, NoSlot}
 use Rattle.rules.specs.Kinds.{KindMeaning}
-use Rattle.shifting.specs.Slots.{Slot, low, high, tied, crossed, no_slot}
+use Rattle.rules.specs.Slots.{place_within}
+use Rattle.shifting.specs.Chains.{scan}
+use Rattle.shifting.specs.Slots.{Slot, is_empty, usable, low, high, tied, crossed, no_slot}
 use Rattle.placing.specs.Placing.{placing, full_from}
+use Rattle.placing.proofs.Passings.{some_place}
 use Rattle.placing.proofs.Steps.{crossed_span}
 
 abbrev Placed : Type 0
@@ -44,6 +48,11 @@ module _ (kind : KindMeaning) (slots : List Slot) (new : Rule) (untied : tied ki
 
       pub placed_well : full_from slots from ≡ false → Ok tt ≡ placing kind slots new
       placed_well free = sym (by_slot ∙ cond-false (no_slot kind slots new) (Err NoSlot) (Ok tt) (sym is_full ∙ free))
+
+-- no slot from one on is found empty
+pub full_is : (slots : List Slot) (from count : ℕ) (found : Option ℕ) (full : Bool) → count ≡ usable slots → found ≡ place_within count (scan (is_empty slots) from (count - from)) → is_some found ≡ not full → full ≡ full_from slots from
+full_is slots from count found full count-is found-is none =
+    sym (not-not full) ∙ ap not (sym none ∙ ap is_some found-is ∙ some_place count (scan (is_empty slots) from (count - from))) ∙ ap (λ (n : ℕ). not (ltb (scan (is_empty slots) from (n - from)) n)) count-is
 
 -- one more slot in a chain
 

@@ -1,25 +1,11 @@
 -- One step of each loop over slots. Assumes nothing.
-use Rattle.std.proofs.Common.{◌≡◌, ℕ, suc, ◌+◌, ◌-◌, ◌<◌, ◌≤◌, min, Bool, true, false, ◌&&◌, ltb, List, [], ◌∷◌, length, None, Ok, Err, sym, ap, ◌∙◌, ⊎_elim, add-one, arith}
-use Rattle.std.proofs.lemmas.List.{get_or_past}
+use Rattle.std.proofs.Common.{◌≡◌, ℕ, suc, ◌+◌, ◌-◌, ◌<◌, ◌≤◌, min, Bool, true, false, ◌&&◌, ltb, List, [], ◌∷◌, sym, ap, ◌∙◌, ⊎_elim, add-one, arith}
 use Rattle.std.proofs.lemmas.Bool.{cond-true, cond-false, cases_lt, cases_Bool, lt-ltb, le-ltb, le-leb, lt-leb, and_parts, and_from}
 use Rattle.rules.specs.declared.rule.Rule.{Rule}
-use Rattle.rules.specs.declared.refusal.Refusal.{Refusal}
-use Rattle.rules.specs.declared.refusal.Refusal.TheVariants.{OffTheTable}
 use Rattle.rules.specs.Kinds.{KindMeaning}
-use Rattle.rules.specs.Slots.{reading}
 use Rattle.shifting.specs.Chains.{scan, past, some_below, farthest, jump}
 use Rattle.shifting.specs.Slots.{Slot, at, usable, above, below, low, high, crossed, clashes, reach}
 use Rattle.shifting.proofs.Scans.{scan_first, scan_hit, past_last, past_hit, past_high, some_below_from, some_below_hit}
-
-pub refused_none : (slots : List Slot) (slot : ℕ) (refusal : Refusal) → Err refusal ≡ reading slots slot → ◌≡◌ {A = Slot} None (at slots slot)
-refused_none slots slot refusal is =
-    ⊎_elim
-    (λ within.
-    let read = cond-true _ (Ok (at slots slot)) (Err OffTheTable) (lt-ltb slot (length slots) within) in
-    let both : ◌≡◌ {A = ℕ} 0 1 = cc in
-    absurd (omega arith))
-    (λ beyond. sym (get_or_past slots slot None beyond))
-    (cases_lt slot (length slots))
 
 module _ (passes : ℕ → Bool) where
   pub scan_here : (i end : ℕ) → i < end → passes i ≡ true → scan passes i (end - i) ≡ i

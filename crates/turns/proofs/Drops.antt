@@ -1,5 +1,5 @@
 -- A drop, a change and a look-up on a board are those of the machine. Assumes nothing.
-use Rattle.std.proofs.Common.{◌≡◌, ℕ, zero, suc, ◌<◌, Bool, true, false, cond, not, ◌||◌, eqb, ltb, List, [], ◌∷◌, length, set, Some, None, Ok, Err, Option, Result, sym, refl, ap, ◌∙◌, subst, ⊎_elim, arith}
+use Rattle.std.proofs.Common.{◌≡◌, ℕ, zero, suc, ◌-◌, ◌<◌, Bool, true, false, cond, not, ◌||◌, eqb, ltb, List, [], ◌∷◌, length, set, Some, None, Ok, Err, Option, Result, MatchOption, sym, refl, ap, ◌∙◌, subst, ⊎_elim, arith}
 use Rattle.std.proofs.lemmas.List.{get_or_past}
 use Rattle.std.proofs.lemmas.Bool.{cases_Bool, cases_lt, both_ways, cond-true, cond-false, lt-ltb, le-ltb, ltb-true, eqb-true, eqb-false, ne_eqb, or_parts, not-false}
 use Rattle.rules.specs.declared.rule.Rule.{Rule}
@@ -8,7 +8,7 @@ use Rattle.rules.specs.declared.event.Event.TheVariants.{Write, Erase}
 use Rattle.rules.specs.declared.refusal.Refusal.{Refusal}
 use Rattle.rules.specs.declared.refusal.Refusal.TheVariants.{Unknown, Mangled, OffTheTable, Misdialled}
 use Rattle.rules.specs.Kinds.{KindMeaning}
-use Rattle.rules.specs.Slots.{writing, erasing, answer, carried_out, first_place}
+use Rattle.rules.specs.Slots.{writing, erasing, answer, carried_out, first_place, place_within}
 use Rattle.rules.specs.Slots.{after as left_after, first_match as device-match}
 use Rattle.shifting.specs.Chains.{scan}
 use Rattle.shifting.specs.Slots.{Slot, at, first_match, slot_matches}
@@ -17,7 +17,7 @@ use Rattle.shifting.proofs.Scans.{scan_hit}
 use Rattle.job.specs.declared.job.Job.{Job}
 use Rattle.job.specs.declared.job.Request.TheVariants.{Alter}
 use Rattle.job.specs.Jobs.{phase_of, allowed}
-use Rattle.turns.specs.Shown.{seen, Shows, ShowsJob, Takes, doing, finding, standing}
+use Rattle.turns.specs.Shown.{seen, Shows, ShowsJob, Takes, doing, finding, numbered, standing}
 use Rattle.turns.proofs.Turned.{never_both, by, shown_by, refused_by, alter_by, alter_idle}
 
 abbrev stands_at : List Slot → ℕ → ℕ
@@ -25,6 +25,12 @@ stands_at slots number = scan (λ i. has_number number (at slots i)) 0 (length s
 
 abbrev absent : List Slot → ℕ → Bool
 absent slots number = eqb number 0 || not (ltb (stands_at slots number) (length slots))
+
+-- the slot of a number, found by looking at so many slots
+pub numbered_is : (slots : List Slot) (number count : ℕ) (slot : Option ℕ) → count ≡ length slots → slot ≡ place_within count (scan (λ i. has_number number (at slots i)) 0 (count - 0)) → slot ≡ numbered slots number
+numbered_is slots number count slot count-is is =
+    let all : count - 0 ≡ length slots = omega arith in
+    is ∙ ap (λ n. place_within count (scan (λ i. has_number number (at slots i)) 0 n)) all ∙ ap (λ n. place_within n (stands_at slots number)) count-is
 
 -- where a number stands
 pub record Stands (slots : List Slot) (number slot : ℕ) : Type 0 where
@@ -160,7 +166,7 @@ module _ (kind : KindMeaning) (subject : ℕ) where
   places_same (Some rule ∷ slots) =
       ap (cond (kind.matches rule.word_a rule.word_b subject) 0) (ap suc (places_same slots) ∙ scan_later (matching (Some rule ∷ slots)) 0 (length slots))
 
-  pub match_some : (slots : List Slot) (slot : ℕ) → Some slot ≡ device-match kind slots subject → at slots slot ≡ first_match kind slots subject
+  match_some : (slots : List Slot) (slot : ℕ) → Some slot ≡ device-match kind slots subject → at slots slot ≡ first_match kind slots subject
   match_some slots slot is =
       let first = first_place (slot_matches kind subject) slots in
       ⊎_elim
@@ -168,13 +174,18 @@ module _ (kind : KindMeaning) (subject : ℕ) where
       (λ beyond. let here = is ∙ cond-false _ (Some first) None (le-ltb first (length slots) beyond) in absurd (let z : ◌≡◌ {A = ℕ} 0 1 = cc in omega arith))
       (cases_lt first (length slots))
 
-  pub match_none : (slots : List Slot) → None ≡ device-match kind slots subject → None ≡ first_match kind slots subject
+  match_none : (slots : List Slot) → None ≡ device-match kind slots subject → None ≡ first_match kind slots subject
   match_none slots is =
       let first = first_place (slot_matches kind subject) slots in
       ⊎_elim
       (λ within. let here = is ∙ cond-true _ (Some first) None (lt-ltb first (length slots) within) in absurd (let z : ◌≡◌ {A = ℕ} 0 1 = cc in omega arith))
       (λ beyond. sym (get_or_past slots (scan (matching slots) 0 (length slots)) None (omega (arith, places_same slots))))
       (cases_lt first (length slots))
+
+  -- what stands in the slot that matches first, if one does
+  pub matched : (slots : List Slot) (slot : Option ℕ) (held : Slot) → slot ≡ device-match kind slots subject → MatchOption slot (held ≡ None) (λ slot. held ≡ at slots slot) → held ≡ first_match kind slots subject
+  matched slots None held is none = none ∙ match_none slots is
+  matched slots (Some slot) held is some = some ∙ match_some slots slot is
 
 module _ {Memory : Type 0} (fixed : Fixed) (stored : Memory → Event → Memory) (slots : List Slot) (trace : ℕ) (memory : Memory) (job : Job) (subject : ℕ) where
   pub look_up_misdialled : fixed.kind.well_formed_subject subject ≡ false → Takes fixed stored (look_up subject) (finding (Err Misdialled)) (seen slots trace memory job) (seen slots trace memory job)

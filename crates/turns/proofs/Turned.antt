@@ -6,8 +6,10 @@ use Rattle.rules.specs.declared.rule.Rule.{Rule}
 use Rattle.rules.specs.declared.event.Event.{Event}
 use Rattle.rules.specs.declared.refusal.Refusal.{Refusal}
 use Rattle.rules.specs.declared.refusal.Refusal.TheVariants.{Busy, Foreign, RunOut}
+use Rattle.rules.specs.declared.device.SlotDevice.{Ghosts}
 use Rattle.rules.specs.Kinds.{KindLaws}
-use Rattle.rules.specs.Slots.{all_after}
+use Rattle.rules.specs.Slots.{carried_out, all_after}
+use Rattle.rules.specs.Slots.{after as left_after}
 use Rattle.shifting.specs.Slots.{Slot, all_carried_out}
 use Rattle.shifting.specs.Machine.{Call, Answer, refused, State, Fixed, Turn, all_traced, does, refuse, when_idle, names, when_named, written, turn, cleared}
 use Rattle.shifting.specs.Machine.{Job as OpenAdd}
@@ -19,7 +21,7 @@ use Rattle.job.specs.declared.job.Phase.{Phase}
 use Rattle.job.specs.declared.job.Phase.TheVariants.{Idle, Shifting, Written}
 use Rattle.job.specs.declared.job.Request.TheVariants.{Alter, Step, Close}
 use Rattle.job.specs.Jobs.{phase_of, naming, allowed}
-use Rattle.turns.specs.Shown.{Seen, Shows, ShowsOpen, ShowsJob, Reached, ticket_of}
+use Rattle.turns.specs.Shown.{Seen, Shows, ShowsOpen, ShowsJob, Reached, ticket_of, CarriesOut, as_events}
 
 abbrev Allowed : Type 0
 Allowed = Result (Unit {0}) Refusal
@@ -34,6 +36,12 @@ at_exit r refusal exit = let parts = err_from_is_err_and r exit in parts.1 ∙ a
 pub on_err : {X : Type 0} {P : Type 0} (r : Result X Refusal) → P → OnErr r P
 on_err (Ok a) p = tt
 on_err (Err refusal) p = p
+
+-- a device that makes one event, or none, carries it out
+pub carries_out : {D K : Type 0} (g : Ghosts D K) (device device' : D) (event : Result Event Refusal) → g.slots device' ≡ left_after carried_out (g.slots device) event → g.trace device' ≡ left_after g.traced (g.trace device) event
+    → g.memory device' ≡ left_after g.stored (g.memory device) event → g.lenders device' ≡ g.lenders device → CarriesOut g device (as_events event) device'
+carries_out g device device' (Ok event) slots trace memory same = record { slots = slots; trace = trace; memory = memory; same = same }
+carries_out g device device' (Err refusal) slots trace memory same = record { slots = slots; trace = trace; memory = memory; same = same }
 
 -- what the machine does where a test refuses, and where it does not
 abbrev pub by : Fixed → State → Allowed → Turn → Turn

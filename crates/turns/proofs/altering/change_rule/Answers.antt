@@ -35,9 +35,9 @@ returns g c =
     let rule_is : c.with_action.result ≡ with_action c.args.action (held (at slots slot)) = c.with_action.ensures ∙ ap (with_action c.args.action) c.held_at-held.ensures in
     record {
       takes = change_done fixed stored slots trace memory job c.in_ok-allows.ensures c.args.rule slot _ _ _ _ c.in_ok-slot.ensures c.args.action
-          (c.write_slot.ensures.answer ∙ ap (λ (rule : Rule). answer (writing (length slots) slot rule)) rule_is)
-          (c.write_slot.ensures.slots ∙ ap (λ (rule : Rule). after carried_out slots (writing (length slots) slot rule)) rule_is)
-          (c.write_slot.ensures.trace ∙ ap (λ (rule : Rule). after g.D.SlotDevice.traced trace (writing (length slots) slot rule)) rule_is)
-          (c.write_slot.ensures.memory ∙ ap (λ (rule : Rule). after stored memory (writing (length slots) slot rule)) rule_is);
-      same = c.write_slot.ensures.same;
+          (c.write.ensures.answer ∙ ap (λ (rule : Rule). answer (writing (length slots) slot rule)) rule_is)
+          (c.write.ensures.slots ∙ ap (λ (rule : Rule). after carried_out slots (writing (length slots) slot rule)) rule_is)
+          (c.write.ensures.trace ∙ ap (λ (rule : Rule). after g.D.SlotDevice.traced trace (writing (length slots) slot rule)) rule_is)
+          (c.write.ensures.memory ∙ ap (λ (rule : Rule). after stored memory (writing (length slots) slot rule)) rule_is);
+      same = c.write.ensures.same;
     }

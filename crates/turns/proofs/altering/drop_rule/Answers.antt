@@ -14,7 +14,7 @@ returns g c =
     let stored = g.D.SlotDevice.stored in
     let memory = g.D.SlotDevice.memory c.args.device.now in
     let job = c.args.job.now in
-    record { takes = drop_done fixed stored slots trace memory job c.in_ok-allows.ensures c.args.rule c.in_ok-slot.slot _ _ _ _ c.in_ok-slot.ensures c.erase_slot.ensures.answer c.erase_slot.ensures.slots c.erase_slot.ensures.trace c.erase_slot.ensures.memory; same = c.erase_slot.ensures.same }
+    record { takes = drop_done fixed stored slots trace memory job c.in_ok-allows.ensures c.args.rule c.in_ok-slot.slot _ _ _ _ c.in_ok-slot.ensures c.erase.ensures.answer c.erase.ensures.slots c.erase.ensures.trace c.erase.ensures.memory; same = c.erase.ensures.same }
 
 pub returns-in_err-slot : goal.returns-in_err-slot
 returns-in_err-slot g c =

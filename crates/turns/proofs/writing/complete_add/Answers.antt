@@ -38,10 +38,10 @@ loop-device-preserved g c =
     let more : c.loop-device.job.made < c.loop-device.job.chain.length = omega arith in
     let further-is = wrote_further c.loop-device.job c.write_next.new.job c.loop-device.invariant.0 more c.write_next.ensures.job in (
       ap (λ (j : Job). j.busy) further-is ∙ c.loop-device.invariant.0,
-      c.write_next.ensures.same ∙ c.loop-device.invariant.1,
+      c.write_next.ensures.writes.same ∙ c.loop-device.invariant.1,
       λ named.
           on_more fixed stored g.met.D.Kind.Kind.lawful named start before _ more
-          (record { slots = c.write_next.ensures.slots; trace = c.write_next.ensures.trace; memory = c.write_next.ensures.memory; job = c.write_next.ensures.job }) (c.loop-device.invariant.2 named),
+          (record { slots = c.write_next.ensures.writes.slots; trace = c.write_next.ensures.writes.trace; memory = c.write_next.ensures.writes.memory; job = c.write_next.ensures.job }) (c.loop-device.invariant.2 named),
     )
 
 pub loop-device-smaller : goal.loop-device-smaller

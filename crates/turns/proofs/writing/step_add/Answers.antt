@@ -31,7 +31,7 @@ returns g c =
     let job = c.args.job.now in
     record {
       takes = step_done fixed stored g.met.D.Kind.Kind.lawful (seen slots trace memory job) _ c.args.named _ c.in_ok-allows.ensures
-          (record { slots = c.write_next.ensures.slots; trace = c.write_next.ensures.trace; memory = c.write_next.ensures.memory; job = c.write_next.ensures.job }) c.left.ensures;
+          (record { slots = c.write_next.ensures.writes.slots; trace = c.write_next.ensures.writes.trace; memory = c.write_next.ensures.writes.memory; job = c.write_next.ensures.job }) c.left.ensures;
       kept = tt;
-      same = c.write_next.ensures.same;
+      same = c.write_next.ensures.writes.same;
     }

@@ -188,10 +188,6 @@ module _ (kind : KindMeaning) (subject : ℕ) where
   matched slots (Some slot) held is some = some ∙ match_some slots slot is
 
 module _ {Memory : Type 0} (fixed : Fixed) (stored : Memory → Event → Memory) (slots : List Slot) (trace : ℕ) (memory : Memory) (job : Job) (subject : ℕ) where
-  pub look_up_misdialled : fixed.kind.well_formed_subject subject ≡ false → Takes fixed stored (look_up subject) (finding (Err Misdialled)) (seen slots trace memory job) (seen slots trace memory job)
-  look_up_misdialled bad state reached shows =
-      refused_by fixed stored state (look_up subject) (seen slots trace memory job) (seen slots trace memory job) Misdialled shows (cond-false _ _ _ bad) refl refl refl shows.job
-
   pub look_up_found : (answer : Option (ℕ × ℕ)) → fixed.kind.well_formed_subject subject ≡ true → answer ≡ told (first_match fixed.kind slots subject)
       → Takes fixed stored (look_up subject) (finding (Ok answer)) (seen slots trace memory job) (seen slots trace memory job)
   look_up_found answer good is state reached shows =

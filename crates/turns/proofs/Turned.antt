@@ -21,7 +21,7 @@ use Rattle.job.specs.declared.job.Phase.{Phase}
 use Rattle.job.specs.declared.job.Phase.TheVariants.{Idle, Shifting, Written}
 use Rattle.job.specs.declared.job.Request.TheVariants.{Alter, Step, Close}
 use Rattle.job.specs.Jobs.{phase_of, naming, allowed}
-use Rattle.turns.specs.Shown.{Seen, Shows, ShowsOpen, ShowsJob, Reached, ticket_of, CarriesOut, as_events}
+use Rattle.turns.specs.Shown.{Seen, Shows, ShowsOpen, ShowsJob, Reached, Takes, ticket_of, CarriesOut, as_events}
 
 abbrev Allowed : Type 0
 Allowed = Result (Unit {0}) Refusal
@@ -29,13 +29,12 @@ Allowed = Result (Unit {0}) Refusal
 pub never_both : {X Y : Type 0} {a : Y} {refusal : Refusal} → ◌≡◌ {A = Result Y Refusal} (Err refusal) (Ok a) → X
 never_both same = absurd (let z : ◌≡◌ {A = ℕ} 0 1 = cc in omega arith)
 
--- what the exit of a `?` returns
-pub at_exit : {X : Type 0} (r : Result X Refusal) (refusal : Refusal) → IsErrAnd r (λ e. e ≡ refusal) → r ≡ Err refusal
-at_exit r refusal exit = let parts = err_from_is_err_and r exit in parts.1 ∙ ap Err parts.2
-
-pub on_err : {X : Type 0} {P : Type 0} (r : Result X Refusal) → P → OnErr r P
-on_err (Ok a) p = tt
-on_err (Err refusal) p = p
+-- a call that leaves by a `?` answers the refusal that it got
+pub refused_exit : {Memory X : Type 0} (fixed : Fixed) (stored : Memory → Event → Memory) (call : Call) (answering : Result X Refusal → Answer) (before behind : Seen Memory) (r : Result X Refusal) (refusal : Refusal) → IsErrAnd r (λ e. e ≡ refusal)
+    → Takes fixed stored call (answering (Err refusal)) before behind → Takes fixed stored call (answering r) before behind
+refused_exit {Memory} {X} fixed stored call answering before behind r refusal exit =
+    let parts = err_from_is_err_and r exit in
+    subst (λ (r : Result X Refusal). Takes fixed stored call (answering r) before behind) (sym (parts.1 ∙ ap Err parts.2))
 
 -- a device that makes one event, or none, carries it out
 pub carries_out : {D K : Type 0} (g : Ghosts D K) (device device' : D) (event : Result Event Refusal) → g.slots device' ≡ left_after carried_out (g.slots device) event → g.trace device' ≡ left_after g.traced (g.trace device) event

@@ -7,10 +7,7 @@ use Rattle.placing.proofs.Placed.{longer, one_more, last_one}
 use Rattle.placing.proofs.jumping.jump_from.Goals as goal
 
 pub overflow_add-low : goal.overflow_add-low
-overflow_add-low g c =
-    let reached = reach g.D.Kind.Kind.meaning (g.D.SlotDevice.slots c.args.device.now) in
-    let bound = farthest_high reached c.loop-turn.low (c.loop-turn.high - c.loop-turn.low) in
-    omega (arith, c.farthest_of-taken.ensures, c.loop-turn.invariant.0, c.loop-turn.invariant.1)
+overflow_add-low g c = grind (arith, farthest_high)
 
 pub loop-turn-preserved : goal.loop-turn-preserved
 loop-turn-preserved g c =

@@ -1,12 +1,12 @@
 -- The writes of an open add on a board are those of the machine. Assumes nothing.
-use Rattle.std.proofs.Common.{◌≡◌, ℕ, suc, ◌+◌, ◌-◌, ◌<◌, ◌≤◌, Bool, true, false, cond, ◌&&◌, ltb, ◌≢◌, List, [], ◌∷◌, reverse, length, get_or, take, drop, set, Some, None, Ok, Err, Option, Result, sym, refl, ap, ◌∙◌, subst, ⊎_elim, add-one, arith}
+use Rattle.std.proofs.Common.{◌≡◌, ℕ, suc, ◌+◌, ◌-◌, ◌<◌, ◌≤◌, Bool, true, cond, ltb, ◌≢◌, List, [], ◌∷◌, reverse, length, get_or, take, drop, set, Some, None, Ok, Err, Option, sym, refl, ap, ◌∙◌, subst, ⊎_elim, add-one, arith}
 use Rattle.std.proofs.lemmas.List.{get_or-take, get_or-reverse, drop_more, drop_all, length-reverse, length-set}
-use Rattle.std.proofs.lemmas.Bool.{cases_Bool, cases_lt, cond-true, cond-false, lt-ltb, le-ltb, ltb-true, ltb-false, eq-eqb, ne_eqb, and_parts}
+use Rattle.std.proofs.lemmas.Bool.{cases_Bool, cond-true, cond-false, ltb-true, ltb-false, eq-eqb, ne_eqb, and_parts}
 use Rattle.rules.specs.declared.rule.Rule.{Rule}
 use Rattle.rules.specs.declared.event.Event.{Event}
 use Rattle.rules.specs.declared.event.Event.TheVariants.{Write, Erase}
 use Rattle.rules.specs.declared.refusal.Refusal.{Refusal}
-use Rattle.rules.specs.declared.refusal.Refusal.TheVariants.{Foreign, RunOut}
+use Rattle.rules.specs.declared.refusal.Refusal.TheVariants.{RunOut}
 use Rattle.rules.specs.Kinds.{KindLaws}
 use Rattle.rules.specs.Slots.{writing, erasing, all_after}
 use Rattle.shifting.specs.Slots.{Slot, at, all_carried_out}
@@ -18,12 +18,11 @@ use Rattle.shifting.proofs.Progress.{Start, Mid, Going, advance}
 use Rattle.shifting.proofs.Sound.{Phase as Holding, Opened}
 use Rattle.job.specs.declared.named.Named.{Named}
 use Rattle.job.specs.declared.job.Job.{Job}
-use Rattle.job.specs.declared.job.Phase.{Phase}
 use Rattle.job.specs.declared.job.JobEvent.TheVariants.{Wrote, Closed}
 use Rattle.job.specs.declared.job.Request.TheVariants.{Step, Close}
 use Rattle.job.specs.Jobs.{phase_of, allowed, moved, further, closed, next_slot, slot_before, slot_last, half_done, in_force}
 use Rattle.turns.specs.Shown.{seen, Seen, Shows, ShowsJob, ShowsOpen, Reached, Takes, counting, ticket_of, next_rule, next_event, as_events, erased_back}
-use Rattle.turns.proofs.Turned.{never_both, when_busy, when_free, reached_sound, reached_next, named_turn, step_by, close_by, TakenBy, refused_by, shown_by}
+use Rattle.turns.proofs.Turned.{reached_sound, reached_next, named_turn, step_by, close_by, TakenBy, refused_by, shown_by}
 use Rattle.turns.proofs.Drops.{writing_ok, erasing_ok}
 
 -- The next write.
@@ -100,22 +99,21 @@ on_start fixed stored named start state reached shows add is good =
 
 -- one write more
 pub wrote_further : (job job' : Job) → job.busy ≡ true → job.made < job.chain.length → job' ≡ moved (phase_of job) Wrote job → job' ≡ further job
-wrote_further job job' busy more is = is ∙ when_busy job (λ (phase : Phase). moved phase Wrote job ≡ further job) busy (λ _. refl) (λ none. absurd (omega arith))
+wrote_further job job' busy more is = grind arith
+
+closed_back : (job job' : Job) → job.busy ≡ true → job' ≡ moved (phase_of job) Closed job → job' ≡ closed job
+closed_back job job' busy is = grind arith
 
 -- a ticket that may be taken back belongs to an open add
 pub close_busy : (board : ℕ) (job : Job) (named : Named) → Ok tt ≡ allowed board (phase_of job) (Close named) job → job.busy ≡ true
-close_busy board job named ok =
-    ⊎_elim (λ busy. busy)
-    (λ free. never_both (sym (ok ∙ when_free job (λ (phase : Phase). allowed board phase (Close named) job ≡ Err Foreign) free refl)))
-    (cases_Bool job.busy)
+close_busy board job named ok = grind arith
 
 abbrev pub more_made : OpenAdd → OpenAdd
 more_made add = record { rule = add.rule; chain = add.chain; made = suc add.made }
 
 -- what a withdraw erases, by the machine
 erased_back_is : (slots : List Slot) (job : Job) (slot : ℕ) (half : Bool) → half_done job ≡ half → (half ≡ true → erasing (length slots) (slot_last job) ≡ Ok (Erase slot)) → erased_back slots job ≡ cond half (Erase slot ∷ []) []
-erased_back_is slots job slot true half_is erase = cond-true (half_done job) (as_events (erasing (length slots) (slot_last job))) [] half_is ∙ ap as_events (erase refl)
-erased_back_is slots job slot false half_is erase = cond-false (half_done job) (as_events (erasing (length slots) (slot_last job))) [] half_is
+erased_back_is slots job slot half half_is erase = grind arith
 
 module _ (fixed : Fixed) (laws : KindLaws fixed.kind) where
   -- a rule that a slot receives has a number
@@ -168,8 +166,7 @@ module _ (fixed : Fixed) (laws : KindLaws fixed.kind) where
   pub step_turn : (state : State) (add : OpenAdd) (named : Named) → state.job ≡ Some add → names fixed state (ticket_of named) add ≡ true → add.made < length add.chain
       → turn fixed state (step (ticket_of named)) ≡ make_one fixed state add
   step_turn state add named is good fewer =
-      named_turn fixed state state.job add named (λ (one : OpenAdd). cond (written one) (refuse fixed state RunOut) (make_one fixed state one)) is good
-      ∙ cond-false (written add) (refuse fixed state RunOut) (make_one fixed state add) (ne_eqb add.made (length add.chain) (λ same. absurd (omega arith)))
+      grind (arith, named_turn)
 
   -- one write more does not change what all the writes make
   all_after_one : (state : State) (job : Job) (add : OpenAdd) → Next state.slots job add → add.made < length add.chain
@@ -187,10 +184,7 @@ module _ (fixed : Fixed) (laws : KindLaws fixed.kind) where
       all in
       let not_yet = cond-false (written add) state.rules (add.rule ∷ state.rules) (ne_eqb add.made (length add.chain) (λ same. absurd (omega arith))) in
       let rules-same : cond (written (more_made add)) rules-one (add.rule ∷ rules-one) ≡ add.rule ∷ state.rules =
-      ⊎_elim
-      (λ yes. cond-true (written (more_made add)) rules-one (add.rule ∷ rules-one) yes ∙ cond-true (written (more_made add)) (add.rule ∷ state.rules) state.rules yes)
-      (λ later. cond-false (written (more_made add)) rules-one (add.rule ∷ rules-one) later ∙ ap (λ (l : List Rule). add.rule ∷ l) (cond-false (written (more_made add)) (add.rule ∷ state.rules) state.rules later))
-      (cases_Bool (written (more_made add))) in
+      grind arith in
       ap (λ (rules : List Rule). ended (unwritten add) (unwritten (more_made add)) rules) (rules-same ∙ sym not_yet)
       ∙ ap (λ (first : List ℕ). ended first (unwritten (more_made add)) (cond (written add) state.rules (add.rule ∷ state.rules))) next.left
       ∙ ap (λ (left : List ℕ). ended (next.slot ∷ next.earlier) left (cond (written add) state.rules (add.rule ∷ state.rules))) next.rest
@@ -236,8 +230,7 @@ module _ {Memory : Type 0} (fixed : Fixed) (stored : Memory → Event → Memory
       let many = shown.chain.as_many in
       let done = shown.made in
       let further-is : behind.job ≡ further before.job =
-      wrote.job
-      ∙ when_busy before.job (λ (phase : Phase). moved phase Wrote before.job ≡ further before.job) shown.busy (λ _. refl) (λ none. absurd (omega arith)) in
+      wrote_further before.job behind.job shown.busy (omega arith) wrote.job in
       let events = ap as_events event ∙ sym next.2 in (
         record {
           slots = wrote.slots ∙ ap (all_carried_out before.slots) events ∙ ap (λ (s : List Slot). all_carried_out s (make_one fixed state add).events) shows.slots;
@@ -322,7 +315,7 @@ module _ {Memory : Type 0} (fixed : Fixed) (stored : Memory → Event → Memory
       let size = length-reverse on.add.chain in
       let empty = drop_all on.add.made (reverse on.add.chain) (omega arith) in
       let is-closed : job ≡ closed before.job =
-      closed_is ∙ when_busy before.job (λ (phase : Phase). moved phase Closed before.job ≡ closed before.job) shown.busy (λ _. refl) (λ _. refl) in
+      closed_back before.job job shown.busy closed_is in
       let told_same : told ≡ length found.0.chain = told_is ∙ ap (λ (j : Job). j.chain.length) is-closed ∙ many ∙ on.announced_is in
       let ended : Shows (seen before.slots before.trace before.memory job) (make_all fixed on.state on.add).next =
       record {
@@ -362,15 +355,11 @@ module _ {Memory : Type 0} (fixed : Fixed) (stored : Memory → Event → Memory
       let many = shown.chain.as_many in
       let done = shown.made in
       let is-closed : job ≡ closed before.job =
-      closed_is ∙ when_busy before.job (λ (phase : Phase). moved phase Closed before.job ≡ closed before.job) shown.busy (λ _. refl) (λ _. refl) in
+      closed_back before.job job shown.busy closed_is in
       let half-same : half_done before.job ≡ half_way add =
-      ap (λ (n : ℕ). ltb 0 n && ltb n before.job.chain.length) done ∙ ap (λ (n : ℕ). ltb 0 add.made && ltb add.made n) many in
+      grind arith in
       let told_same : told ≡ cond (written add) 1 0 =
-      told_is
-      ∙ ⊎_elim
-      (λ more. cond-true _ 0 1 (lt-ltb 0 (before.job.chain.length - before.job.made) (omega arith)) ∙ sym (cond-false (written add) 1 0 (ne_eqb add.made (length add.chain) (λ same. absurd (omega arith)))))
-      (λ none. cond-false _ 0 1 (le-ltb 0 (before.job.chain.length - before.job.made) (omega arith)) ∙ sym (cond-true (written add) 1 0 (eq-eqb add.made (length add.chain) (omega arith))))
-      (cases_lt add.made (length add.chain)) in
+      grind arith in
       let events = cond (half_way add) (Erase (last_written add) ∷ []) [] in
       let erase : half_way add ≡ true → erasing (length before.slots) (slot_last before.job) ≡ Ok (Erase (last_written add)) =
       λ half.

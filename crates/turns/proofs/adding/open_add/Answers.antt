@@ -1,6 +1,5 @@
 use Rattle.std.proofs.Common.{refl}
 use Rattle.shifting.specs.Machine.{add}
-use Rattle.job.specs.declared.job.Job.{Job}
 use Rattle.turns.specs.Shown.{opening}
 use Rattle.turns.proofs.Turned.{refused_exit}
 use Rattle.turns.proofs.Adds.{add_unfit, add_unplaced, add_opened}

@@ -1,4 +1,4 @@
-use Rattle.std.proofs.Common.{length, arith}
+use Rattle.std.proofs.Common.{arith}
 use Rattle.turns.proofs.Turned.{carries_out}
 use Rattle.turns.proofs.Clears.{clearing_start, clearing_more, cleared_all}
 use Rattle.turns.proofs.opening.clear.Goals as goal

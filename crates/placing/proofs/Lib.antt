@@ -1,3 +1,4 @@
+pub mod Passings
 mod Steps
 mod Placed
 mod Surveys

@@ -1,3 +1,3 @@
-pub mod Tests
+pub mod Passing
 pub mod Standings
 pub mod Placing

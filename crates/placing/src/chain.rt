@@ -29,10 +29,6 @@ impl Chain {
     pub fn slot(&self, place: u16) -> u16
         ensures { result ≡ slice_index self.now.places place }
     {
-        if place < 480 {
-            self.places[place as usize]
-        } else {
-            0
-        }
+        self.places.get(place as usize).copied().unwrap_or(0)
     }
 }

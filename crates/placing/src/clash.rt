@@ -11,11 +11,8 @@ use rules::{Kind, Rule, SlotDevice};
 fn clash<K: Kind>(slot: Option<Rule>, other: Option<Rule>) -> bool
     ensures { result ≡ clashes K.Kind.meaning slot other }
 {
-    match (slot, other) {
-        (Some(rule), Some(other)) => rule.meets::<K>(other) && rule.number != other.number,
-        (Some(_), None) => false,
-        (None, _) => false,
-    }
+    slot.zip(other).is_some_and(|(rule, other)| rule.meets::<K>(other)
+        && rule.number != other.number)
 }
 
 // The first later slot whose rule clashes with the one in this slot, or the last slot.
@@ -53,12 +50,7 @@ fn reach_beyond<D: SlotDevice>(device: &D, slot: u16, least: u16) -> u16
     if is_blocked(device, slot, least) {
         return least;
     }
-    let slot_reach = reach_of(device, slot);
-    if least < slot_reach {
-        slot_reach
-    } else {
-        least
-    }
+    least.max(reach_of(device, slot))
 }
 
 // Of the slots from one to another the one with the greatest reach, and the lowest of several.
@@ -66,10 +58,8 @@ pub(crate) fn farthest_of<D: SlotDevice>(device: &D, from: u16, to: u16) -> u16
     ensures { result ≡ farthest (reach D.Kind.Kind.meaning (D.SlotDevice.slots device.now)) from (to - from) }
 {
     let mut best = from;
-    let mut best_reach = reach_of(device, from);
-    let mut slot = from;
-    while slot < to {
-        slot += 1;
+    let mut best_reach = 0;
+    for slot in from..=to {
         let slot_reach = reach_beyond(device, slot, best_reach);
         if best_reach < slot_reach {
             best = slot;

@@ -8,7 +8,7 @@ use crate::chain::Chain;
 use crate::clash::{farthest_of, reach_of};
 use crate::reading::usable_slots;
 use crate::scanning::first_passing;
-use crate::slot_test::SlotTest;
+use crate::slot_tests::is_empty;
 use crate::span::{is_crossed, is_full};
 use crate::survey::look_over;
 use rules::{Refusal, Rule, SlotDevice};
@@ -20,12 +20,9 @@ fn jump_from<D: SlotDevice>(device: &D, from: u16, to: u16, chain: &mut Chain)
 {
     let mut low = from;
     let mut high = to;
-    let mut turns = usable_slots(device);
     chain.length = 0;
-    while turns > 0 {
-        turns -= 1;
-        let empty = first_passing(device, SlotTest::Empty, low, high + 1);
-        if empty <= high {
+    for _turn in 0..usable_slots(device) {
+        if let Some(empty) = first_passing(device, low, high + 1, is_empty) {
             chain.push(empty);
             break;
         }
@@ -43,10 +40,10 @@ pub fn find_chain<D: SlotDevice>(device: &D, new: Rule, chain: &mut Chain) -> Re
     ensures kept { OnErr result (chain.new ≡ chain.old) }
 {
     let survey = look_over(device, new);
-    if survey.is_tied() {
+    if survey.tied {
         return Err(Refusal::Tied);
     }
-    let (from, to) = survey.span();
+    let (from, to) = survey.span;
     if is_crossed(from, to) {
         return Err(Refusal::Crossed);
     }

@@ -11,19 +11,11 @@ const MOST_SLOTS: u16 = 480;
 pub fn slot_at<D: SlotDevice>(device: &D, slot: u16) -> Option<Rule>
     ensures { result ≡ at (D.SlotDevice.slots device.now) slot }
 {
-    match device.read(slot) {
-        Ok(held) => held,
-        Err(_) => None,
-    }
+    device.read(slot).unwrap_or(None)
 }
 
 pub fn usable_slots<D: SlotDevice>(device: &D) -> u16
     ensures { result ≡ usable (D.SlotDevice.slots device.now) }
 {
-    let count = device.count();
-    if count < MOST_SLOTS {
-        count
-    } else {
-        MOST_SLOTS
-    }
+    device.count().min(MOST_SLOTS)
 }

@@ -1,37 +1,40 @@
-// The first and the last slot that pass a test.
-ghost use Rattle.std.specs.Prelude.{◌≡◌, ◌-◌};
-ghost use Rattle.shifting.specs.Chains.{scan, past};
-ghost use Rattle.shifting.specs.Slots.{at};
-ghost use Rattle.placing.specs.Tests.{passes};
+// The first and the last slot that pass a test of what stands in them.
+ghost use Rattle.placing.specs.Passing.{FirstPassing, PastLast};
 
 use crate::reading::slot_at;
-use crate::slot_test::SlotTest;
-use rules::SlotDevice;
+use rules::{Rule, SlotDevice};
 
-// The first slot from `low` on and before `end` that passes, or `end`; `low` itself where it is not before `end`.
-pub fn first_passing<D: SlotDevice>(device: &D, test: SlotTest, low: u16, end: u16) -> u16
-    ensures { result ≡ scan (λ i. passes D.Kind.Kind.meaning test (at (D.SlotDevice.slots device.now) i)) low (end - low) }
+// The first slot from `low` on and before `end` that passes.
+pub fn first_passing<D: SlotDevice, F: Fn(Option<Rule>) -> bool>(
+    device: &D,
+    low: u16,
+    end: u16,
+    passes: F,
+) -> Option<u16>
+    requires { F.IsAlwaysCallable passes }
+    ensures { FirstPassing (F.post passes) (D.SlotDevice.slots device.now) low end result }
 {
-    let mut slot = low;
-    while slot < end {
-        if test.passes::<D::Kind>(slot_at(device, slot)) {
-            return slot;
+    for slot in low..end {
+        if passes(slot_at(device, slot)) {
+            return Some(slot);
         }
-        slot += 1;
     }
-    slot
+    None
 }
 
 // One past the last slot before `end` that passes, or 0.
-pub fn past_last_passing<D: SlotDevice>(device: &D, test: SlotTest, end: u16) -> u16
-    ensures { result ≡ past (λ i. passes D.Kind.Kind.meaning test (at (D.SlotDevice.slots device.now) i)) end }
+pub fn past_last_passing<D: SlotDevice, F: Fn(Option<Rule>) -> bool>(
+    device: &D,
+    end: u16,
+    passes: F,
+) -> u16
+    requires { F.IsAlwaysCallable passes }
+    ensures { PastLast (F.post passes) (D.SlotDevice.slots device.now) end result }
 {
-    let mut slot = end;
-    while slot > 0 {
-        if test.passes::<D::Kind>(slot_at(device, slot - 1)) {
-            return slot;
+    for last in (0..end).rev() {
+        if passes(slot_at(device, last)) {
+            return last + 1;
         }
-        slot -= 1;
     }
-    slot
+    0
 }

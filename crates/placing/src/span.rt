@@ -4,15 +4,16 @@ ghost use Rattle.shifting.specs.Slots.{low, high, tied};
 ghost use Rattle.placing.specs.Placing.{full_from};
 
 use crate::reading::usable_slots;
-use crate::scanning::{first_passing, past_last_passing};
-use crate::slot_test::SlotTest;
+use crate::scanning::first_passing;
+use crate::slot_tests::is_empty;
+use crate::survey::look_over;
 use rules::{Rule, SlotDevice};
 
 // The last slot that a board uses of so many, or 0.
 pub(crate) fn last_of(count: u16) -> u16
     ensures { result ≡ count - 1 }
 {
-    if count > 0 { count - 1 } else { 0 }
+    count.saturating_sub(1)
 }
 
 // The slots between which a new rule may go, both included.
@@ -20,32 +21,25 @@ pub fn span<D: SlotDevice>(device: &D, new: Rule) -> (u16, u16)
     ensures low { result.0 ≡ low D.Kind.Kind.meaning (D.SlotDevice.slots device.now) new }
     ensures high { result.1 ≡ high D.Kind.Kind.meaning (D.SlotDevice.slots device.now) new }
 {
-    let count = usable_slots(device);
-    let from = past_last_passing(device, SlotTest::Above(new), count);
-    let below = first_passing(device, SlotTest::Below(new), 0, count);
-    let last = last_of(count);
-    let to = if below < last { below } else { last };
-    (from, to)
+    look_over(device, new).span
 }
 
 pub fn is_tied<D: SlotDevice>(device: &D, new: Rule) -> bool
     ensures { result ≡ tied D.Kind.Kind.meaning (D.SlotDevice.slots device.now) new }
 {
-    let count = usable_slots(device);
-    first_passing(device, SlotTest::Level(new), 0, count) < count
+    look_over(device, new).tied
 }
 
 // Whether a span is crossed: it begins past the slot after its last.
 pub(crate) fn is_crossed(from: u16, to: u16) -> bool
     ensures { result ≡ nat_lt (suc to) from }
 {
-    from > 0 && to < from - 1
+    to.saturating_add(1) < from
 }
 
 // Whether no slot from this one on is empty.
 pub(crate) fn is_full<D: SlotDevice>(device: &D, from: u16) -> bool
     ensures { result ≡ full_from (D.SlotDevice.slots device.now) from }
 {
-    let count = usable_slots(device);
-    first_passing(device, SlotTest::Empty, from, count) >= count
+    first_passing(device, from, usable_slots(device), is_empty).is_none()
 }

@@ -1,5 +1,5 @@
 -- An add on a board is an add of the machine. Assumes nothing.
-use Rattle.std.proofs.Common.{◌≡◌, ℕ, Bool, true, false, cond, not, ◌||◌, eqb, List, [], length, take, None, Ok, Err, Option, Result, sym, refl, ap, ◌∙◌, subst}
+use Rattle.std.proofs.Common.{◌≡◌, ℕ, Bool, true, false, cond, not, ◌||◌, eqb, List, [], length, take, None, Ok, Err, Option, Result, sym, refl, ap, ◌∙◌, subst, arith}
 use Rattle.std.proofs.lemmas.Bool.{eq-eqb}
 use Rattle.rules.specs.declared.rule.Rule.{Rule}
 use Rattle.rules.specs.declared.event.Event.{Event}
@@ -17,20 +17,17 @@ use Rattle.shifting.proofs.Serving.{number_rule}
 use Rattle.shifting.proofs.Sound.{Phase as Holding, Sound, found_number}
 use Rattle.placing.specs.Placing.{placing, Names}
 use Rattle.job.specs.declared.job.Job.{Job}
-use Rattle.job.specs.declared.job.Phase.{Phase}
 use Rattle.job.specs.declared.job.JobEvent.TheVariants.{Opened}
 use Rattle.job.specs.declared.job.Request.TheVariants.{Alter}
 use Rattle.job.specs.Jobs.{phase_of, allowed, moved}
 use Rattle.job.specs.Jobs.{opened as job-opened}
 use Rattle.turns.specs.Shown.{seen, Shows, ShowsJob, Reached, Takes, opening, fitting}
-use Rattle.turns.proofs.Turned.{by, reached_sound, shown_by, refused_by, alter_by, alter_idle, when_free}
+use Rattle.turns.proofs.Turned.{by, reached_sound, shown_by, refused_by, alter_by, alter_idle}
 
 -- while no add is open, the numbers in the slots are those of the rules in force
 
 same_bools : (a b : Bool) → (a ≡ true → b ≡ true) → (b ≡ true → a ≡ true) → a ≡ b
-same_bools true b to from = sym (to refl)
-same_bools false true to from = from refl
-same_bools false false to from = refl
+same_bools a b to from = grind arith
 
 numbers_same : (kind : KindMeaning) (slots : List Slot) (rules : List Rule) (number : ℕ) → Settled kind slots rules
     → number_in number rules ≡ some_below (λ i. has_number number (at slots i)) (length slots)
@@ -111,7 +108,7 @@ module _ {Memory : Type 0} (fixed : Fixed) (stored : Memory → Event → Memory
         let none = alter_idle fixed state job state.job shows.job idle in
         let free : job.busy ≡ false = subst (ShowsJob job) none shows.job in
         let Chain-same = ap (λ (s : List Slot). jump_chain fixed.kind s new) shows.slots in
-        let is-opened : job' ≡ job-opened new job₁ = moved-is ∙ when_free job₁ (λ (phase : Phase). moved phase (Opened new) job₁ ≡ job-opened new job₁) (same ∙ free) refl in
+        let is-opened : job' ≡ job-opened new job₁ = grind arith in
         let as_many : length-told ≡ length (jump_chain fixed.kind state.slots new) = told ∙ names-chain.as_many ∙ ap length Chain-same in
         shown_by fixed stored state (add new) (seen slots trace memory job) (seen slots trace memory job') _ _ [] state.rules _ shows
         (placed state reached shows ∙ ap (λ (r : Result (Unit {0}) Refusal). by fixed state r (open_add fixed state new)) (sym well))

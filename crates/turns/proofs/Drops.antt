@@ -1,14 +1,14 @@
 -- A drop, a change and a look-up on a board are those of the machine. Assumes nothing.
-use Rattle.std.proofs.Common.{◌≡◌, ℕ, zero, suc, ◌<◌, Bool, true, false, cond, not, ◌||◌, eqb, ltb, List, [], ◌∷◌, length, set, Some, None, Ok, Err, Option, Result, sym, refl, ap, ◌∙◌, subst, ⊎_elim, arith}
+use Rattle.std.proofs.Common.{◌≡◌, ℕ, zero, suc, ◌-◌, ◌<◌, Bool, true, false, cond, not, ◌||◌, eqb, ltb, List, [], ◌∷◌, length, set, Some, None, Ok, Err, Option, Result, MatchOption, sym, refl, ap, ◌∙◌, subst, arith}
 use Rattle.std.proofs.lemmas.List.{get_or_past}
-use Rattle.std.proofs.lemmas.Bool.{cases_Bool, cases_lt, both_ways, cond-true, cond-false, lt-ltb, le-ltb, ltb-true, eqb-true, eqb-false, ne_eqb, or_parts, not-false}
+use Rattle.std.proofs.lemmas.Bool.{cond-true, cond-false}
 use Rattle.rules.specs.declared.rule.Rule.{Rule}
 use Rattle.rules.specs.declared.event.Event.{Event}
 use Rattle.rules.specs.declared.event.Event.TheVariants.{Write, Erase}
 use Rattle.rules.specs.declared.refusal.Refusal.{Refusal}
-use Rattle.rules.specs.declared.refusal.Refusal.TheVariants.{Unknown, Mangled, OffTheTable, Misdialled}
+use Rattle.rules.specs.declared.refusal.Refusal.TheVariants.{Unknown}
 use Rattle.rules.specs.Kinds.{KindMeaning}
-use Rattle.rules.specs.Slots.{writing, erasing, answer, carried_out, first_place}
+use Rattle.rules.specs.Slots.{writing, erasing, answer, carried_out, first_place, place_within}
 use Rattle.rules.specs.Slots.{after as left_after, first_match as device-match}
 use Rattle.shifting.specs.Chains.{scan}
 use Rattle.shifting.specs.Slots.{Slot, at, first_match, slot_matches}
@@ -17,14 +17,18 @@ use Rattle.shifting.proofs.Scans.{scan_hit}
 use Rattle.job.specs.declared.job.Job.{Job}
 use Rattle.job.specs.declared.job.Request.TheVariants.{Alter}
 use Rattle.job.specs.Jobs.{phase_of, allowed}
-use Rattle.turns.specs.Shown.{seen, Shows, ShowsJob, Takes, doing, finding, standing}
-use Rattle.turns.proofs.Turned.{never_both, by, shown_by, refused_by, alter_by, alter_idle}
+use Rattle.turns.specs.Shown.{seen, Shows, ShowsJob, Takes, doing, finding, numbered, standing}
+use Rattle.turns.proofs.Turned.{by, shown_by, refused_by, alter_by, alter_idle}
 
 abbrev stands_at : List Slot → ℕ → ℕ
 stands_at slots number = scan (λ i. has_number number (at slots i)) 0 (length slots)
 
 abbrev absent : List Slot → ℕ → Bool
 absent slots number = eqb number 0 || not (ltb (stands_at slots number) (length slots))
+
+-- the slot of a number, found by looking at so many slots
+pub numbered_is : (slots : List Slot) (number count : ℕ) (slot : Option ℕ) → count ≡ length slots → slot ≡ place_within count (scan (λ i. has_number number (at slots i)) 0 (count - 0)) → slot ≡ numbered slots number
+numbered_is slots number count slot count-is is = grind arith
 
 -- where a number stands
 pub record Stands (slots : List Slot) (number slot : ℕ) : Type 0 where
@@ -34,35 +38,20 @@ pub record Stands (slots : List Slot) (number slot : ℕ) : Type 0 where
   pub some_number : number ≡ 0 → ⊥
 
 found_standing : (slots : List Slot) (number slot : ℕ) → Ok slot ≡ standing slots number → Stands slots number slot
-found_standing slots number slot is =
-    ⊎_elim
-    (λ gone. never_both (sym (is ∙ cond-true (absent slots number) (Err Unknown) (Ok (stands_at slots number)) gone)))
-    (λ here.
-    let ok = is ∙ cond-false (absent slots number) (Err Unknown) (Ok (stands_at slots number)) here in
-    let same : slot ≡ stands_at slots number = cc in
-    let parts = or_parts (eqb number 0) (not (ltb (stands_at slots number) (length slots))) here in
-    let inside = ltb-true (stands_at slots number) (length slots) (not-false _ parts.1) in
-    record { here = here; slot_is = same; within = omega arith; some_number = eqb-false number 0 parts.0 })
-    (cases_Bool (absent slots number))
+found_standing slots number slot is = grind arith
 
 unknown_absent : (slots : List Slot) (number : ℕ) (refusal : Refusal) → Err refusal ≡ standing slots number → (absent slots number ≡ true) × (refusal ≡ Unknown)
-unknown_absent slots number refusal is =
-    ⊎_elim
-    (λ gone. let no = is ∙ cond-true (absent slots number) (Err Unknown) (Ok (stands_at slots number)) gone in let same : refusal ≡ Unknown = cc in (gone, same))
-    (λ here. never_both (is ∙ cond-false (absent slots number) (Err Unknown) (Ok (stands_at slots number)) here))
-    (cases_Bool (absent slots number))
+unknown_absent slots number refusal is = grind arith
 
 pub erasing_ok : (count slot : ℕ) → slot < count → erasing count slot ≡ Ok (Erase slot)
-erasing_ok count slot within = cond-true _ (Ok (Erase slot)) (Err OffTheTable) (lt-ltb slot count within)
+erasing_ok count slot within = grind arith
 
 pub writing_ok : (count slot : ℕ) (rule : Rule) → slot < count → (rule.number ≡ 0 → ⊥) → writing count slot rule ≡ Ok (Write slot rule)
-writing_ok count slot rule within some_number =
-    cond-false (eqb rule.number 0) (Err Mangled) (cond (ltb slot count) (Ok (Write slot rule)) (Err OffTheTable)) (ne_eqb rule.number 0 some_number)
-    ∙ cond-true (ltb slot count) (Ok (Write slot rule)) (Err OffTheTable) (lt-ltb slot count within)
+writing_ok count slot rule within some_number = grind arith
 
 held_number : (slot : Slot) (number : ℕ) → has_number number slot ≡ true → (held slot).number ≡ number
-held_number None number is = absurd (both_ways false refl is)
-held_number (Some rule) number is = eqb-true rule.number number is
+held_number None number is = grind arith
+held_number (Some rule) number is = grind arith
 
 module _ {Memory : Type 0} (fixed : Fixed) (stored : Memory → Event → Memory) (slots : List Slot) (trace : ℕ) (memory : Memory) (job : Job) (idle : Ok tt ≡ allowed fixed.board (phase_of job) Alter job) where
   altered : (state : State) (made : Turn) (number : ℕ) → Shows (seen slots trace memory job) state
@@ -141,14 +130,7 @@ module _ {Memory : Type 0} (fixed : Fixed) (stored : Memory → Event → Memory
 
 scan_later : (passes : ℕ → Bool) (i n : ℕ) → suc (scan (λ k. passes (suc k)) i n) ≡ scan passes (suc i) n
 scan_later passes i zero = refl
-scan_later passes i (suc n) =
-    ⊎_elim
-    (λ yes. ap suc (cond-true (passes (suc i)) i (scan (λ k. passes (suc k)) (suc i) n) yes) ∙ sym (cond-true (passes (suc i)) (suc i) (scan passes (suc (suc i)) n) yes))
-    (λ no.
-    ap suc (cond-false (passes (suc i)) i (scan (λ k. passes (suc k)) (suc i) n) no)
-    ∙ scan_later passes (suc i) n
-    ∙ sym (cond-false (passes (suc i)) (suc i) (scan passes (suc (suc i)) n) no))
-    (cases_Bool (passes (suc i)))
+scan_later passes i (suc n) = grind (arith, scan_later passes (suc i) n)
 
 module _ (kind : KindMeaning) (subject : ℕ) where
   abbrev matching : List Slot → ℕ → Bool
@@ -160,27 +142,18 @@ module _ (kind : KindMeaning) (subject : ℕ) where
   places_same (Some rule ∷ slots) =
       ap (cond (kind.matches rule.word_a rule.word_b subject) 0) (ap suc (places_same slots) ∙ scan_later (matching (Some rule ∷ slots)) 0 (length slots))
 
-  pub match_some : (slots : List Slot) (slot : ℕ) → Some slot ≡ device-match kind slots subject → at slots slot ≡ first_match kind slots subject
-  match_some slots slot is =
-      let first = first_place (slot_matches kind subject) slots in
-      ⊎_elim
-      (λ within. let here = is ∙ cond-true _ (Some first) None (lt-ltb first (length slots) within) in let same : slot ≡ first = cc in ap (at slots) (same ∙ places_same slots))
-      (λ beyond. let here = is ∙ cond-false _ (Some first) None (le-ltb first (length slots) beyond) in absurd (let z : ◌≡◌ {A = ℕ} 0 1 = cc in omega arith))
-      (cases_lt first (length slots))
+  match_some : (slots : List Slot) (slot : ℕ) → Some slot ≡ device-match kind slots subject → at slots slot ≡ first_match kind slots subject
+  match_some slots slot is = grind (arith, places_same)
 
-  pub match_none : (slots : List Slot) → None ≡ device-match kind slots subject → None ≡ first_match kind slots subject
-  match_none slots is =
-      let first = first_place (slot_matches kind subject) slots in
-      ⊎_elim
-      (λ within. let here = is ∙ cond-true _ (Some first) None (lt-ltb first (length slots) within) in absurd (let z : ◌≡◌ {A = ℕ} 0 1 = cc in omega arith))
-      (λ beyond. sym (get_or_past slots (scan (matching slots) 0 (length slots)) None (omega (arith, places_same slots))))
-      (cases_lt first (length slots))
+  match_none : (slots : List Slot) → None ≡ device-match kind slots subject → None ≡ first_match kind slots subject
+  match_none slots is = grind (arith, places_same, get_or_past)
+
+  -- what stands in the slot that matches first, if one does
+  pub matched : (slots : List Slot) (slot : Option ℕ) (held : Slot) → slot ≡ device-match kind slots subject → MatchOption slot (held ≡ None) (λ slot. held ≡ at slots slot) → held ≡ first_match kind slots subject
+  matched slots None held is none = none ∙ match_none slots is
+  matched slots (Some slot) held is some = some ∙ match_some slots slot is
 
 module _ {Memory : Type 0} (fixed : Fixed) (stored : Memory → Event → Memory) (slots : List Slot) (trace : ℕ) (memory : Memory) (job : Job) (subject : ℕ) where
-  pub look_up_misdialled : fixed.kind.well_formed_subject subject ≡ false → Takes fixed stored (look_up subject) (finding (Err Misdialled)) (seen slots trace memory job) (seen slots trace memory job)
-  look_up_misdialled bad state reached shows =
-      refused_by fixed stored state (look_up subject) (seen slots trace memory job) (seen slots trace memory job) Misdialled shows (cond-false _ _ _ bad) refl refl refl shows.job
-
   pub look_up_found : (answer : Option (ℕ × ℕ)) → fixed.kind.well_formed_subject subject ≡ true → answer ≡ told (first_match fixed.kind slots subject)
       → Takes fixed stored (look_up subject) (finding (Ok answer)) (seen slots trace memory job) (seen slots trace memory job)
   look_up_found answer good is state reached shows =

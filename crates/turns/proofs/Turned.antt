@@ -1,39 +1,41 @@
 -- How a call on a board is a turn of the machine. Assumes nothing.
-use Rattle.std.proofs.Common.{◌≡◌, ℕ, ◌<◌, ◌≤◌, Bool, true, false, cond, ◌&&◌, eqb, ltb, List, [], ◌∷◌, ◌++◌, IsErrAnd, OnErr, Some, None, Ok, Err, Option, Result, sym, refl, ap, ◌∙◌, subst, ⊎_elim, arith}
-use Rattle.std.proofs.lemmas.Bool.{cond-true, cond-false, cond_both, cases_Bool, both_ways, ltb-true, ltb-false}
+use Rattle.std.proofs.Common.{◌≡◌, ℕ, ◌<◌, ◌≤◌, true, ◌&&◌, eqb, List, [], ◌∷◌, ◌++◌, IsErrAnd, Some, None, Ok, Err, Option, Result, sym, refl, ap, ◌∙◌, subst, arith}
+use Rattle.std.proofs.lemmas.Bool.{cond-true}
 use Rattle.std.proofs.lemmas.Result.{err_from_is_err_and}
 use Rattle.rules.specs.declared.rule.Rule.{Rule}
 use Rattle.rules.specs.declared.event.Event.{Event}
 use Rattle.rules.specs.declared.refusal.Refusal.{Refusal}
-use Rattle.rules.specs.declared.refusal.Refusal.TheVariants.{Busy, Foreign, RunOut}
+use Rattle.rules.specs.declared.refusal.Refusal.TheVariants.{Foreign, RunOut}
+use Rattle.rules.specs.declared.device.SlotDevice.{Ghosts}
 use Rattle.rules.specs.Kinds.{KindLaws}
-use Rattle.rules.specs.Slots.{all_after}
+use Rattle.rules.specs.Slots.{carried_out, all_after}
+use Rattle.rules.specs.Slots.{after as left_after}
 use Rattle.shifting.specs.Slots.{Slot, all_carried_out}
-use Rattle.shifting.specs.Machine.{Call, Answer, refused, State, Fixed, Turn, all_traced, does, refuse, when_idle, names, when_named, written, turn, cleared}
+use Rattle.shifting.specs.Machine.{Call, Answer, refused, State, Fixed, Turn, all_traced, does, refuse, when_idle, names, when_named, turn, cleared}
 use Rattle.shifting.specs.Machine.{Job as OpenAdd}
 use Rattle.shifting.proofs.Serving.{Brings, sized_from, after_push, sized_push}
 use Rattle.shifting.proofs.Sound.{Sound, sound_after, cleared_sound}
 use Rattle.job.specs.declared.named.Named.{Named}
 use Rattle.job.specs.declared.job.Job.{Job}
-use Rattle.job.specs.declared.job.Phase.{Phase}
-use Rattle.job.specs.declared.job.Phase.TheVariants.{Idle, Shifting, Written}
 use Rattle.job.specs.declared.job.Request.TheVariants.{Alter, Step, Close}
 use Rattle.job.specs.Jobs.{phase_of, naming, allowed}
-use Rattle.turns.specs.Shown.{Seen, Shows, ShowsOpen, ShowsJob, Reached, ticket_of}
+use Rattle.turns.specs.Shown.{Seen, Shows, ShowsOpen, ShowsJob, Reached, Takes, ticket_of, CarriesOut, as_events}
 
 abbrev Allowed : Type 0
 Allowed = Result (Unit {0}) Refusal
 
-pub never_both : {X Y : Type 0} {a : Y} {refusal : Refusal} → ◌≡◌ {A = Result Y Refusal} (Err refusal) (Ok a) → X
-never_both same = absurd (let z : ◌≡◌ {A = ℕ} 0 1 = cc in omega arith)
+-- a call that leaves by a `?` answers the refusal that it got
+pub refused_exit : {Memory X : Type 0} (fixed : Fixed) (stored : Memory → Event → Memory) (call : Call) (answering : Result X Refusal → Answer) (before behind : Seen Memory) (r : Result X Refusal) (refusal : Refusal) → IsErrAnd r (λ e. e ≡ refusal)
+    → Takes fixed stored call (answering (Err refusal)) before behind → Takes fixed stored call (answering r) before behind
+refused_exit {Memory} {X} fixed stored call answering before behind r refusal exit =
+    let parts = err_from_is_err_and r exit in
+    subst (λ (r : Result X Refusal). Takes fixed stored call (answering r) before behind) (sym (parts.1 ∙ ap Err parts.2))
 
--- what the exit of a `?` returns
-pub at_exit : {X : Type 0} (r : Result X Refusal) (refusal : Refusal) → IsErrAnd r (λ e. e ≡ refusal) → r ≡ Err refusal
-at_exit r refusal exit = let parts = err_from_is_err_and r exit in parts.1 ∙ ap Err parts.2
-
-pub on_err : {X : Type 0} {P : Type 0} (r : Result X Refusal) → P → OnErr r P
-on_err (Ok a) p = tt
-on_err (Err refusal) p = p
+-- a device that makes one event, or none, carries it out
+pub carries_out : {D K : Type 0} (g : Ghosts D K) (device device' : D) (event : Result Event Refusal) → g.slots device' ≡ left_after carried_out (g.slots device) event → g.trace device' ≡ left_after g.traced (g.trace device) event
+    → g.memory device' ≡ left_after g.stored (g.memory device) event → g.lenders device' ≡ g.lenders device → CarriesOut g device (as_events event) device'
+carries_out g device device' (Ok event) slots trace memory same = record { slots = slots; trace = trace; memory = memory; same = same }
+carries_out g device device' (Err refusal) slots trace memory same = record { slots = slots; trace = trace; memory = memory; same = same }
 
 -- what the machine does where a test refuses, and where it does not
 abbrev pub by : Fixed → State → Allowed → Turn → Turn
@@ -55,21 +57,6 @@ module _ (fixed : Fixed) (laws : KindLaws fixed.kind) where
   reached_sound state reached =
       subst (Sound fixed laws) (sym reached.is)
       (sound_after fixed laws reached.calls (cleared fixed reached.slots reached.trace) reached.sized (cleared_sound fixed laws reached.slots reached.trace))
-
--- The phase of a job.
-
-pub when_busy : (job : Job) (P : Phase → Type 0) → job.busy ≡ true → (job.made < job.chain.length → P Shifting) → (job.chain.length ≤ job.made → P Written) → P (phase_of job)
-when_busy job P busy shifting written =
-    cond_both job.busy (cond (ltb job.made job.chain.length) Shifting Written) Idle P
-    (λ _.
-    cond_both (ltb job.made job.chain.length) Shifting Written P
-    (λ more. shifting (ltb-true job.made job.chain.length more))
-    (λ none. written (ltb-false job.made job.chain.length none)))
-    (λ idle. absurd (both_ways job.busy idle busy))
-
-pub when_free : (job : Job) (P : Phase → Type 0) → job.busy ≡ false → P Idle → P (phase_of job)
-when_free job P free idle =
-    cond_both job.busy (cond (ltb job.made job.chain.length) Shifting Written) Idle P (λ busy. absurd (both_ways job.busy free busy)) (λ _. idle)
 
 module _ {Memory : Type 0} (fixed : Fixed) (stored : Memory → Event → Memory) (state : State) where
   -- what a call is to be, by the machine's turn
@@ -107,16 +94,11 @@ module _ (fixed : Fixed) (state : State) where
   -- add, drop and change
   pub alter_by : (job : Job) (open_add : Option OpenAdd) (made : Turn) → ShowsJob job open_add
       → when_idle fixed state open_add made ≡ by fixed state (allowed fixed.board (phase_of job) Alter job) made
-  alter_by job None made shown = when_free job (λ (phase : Phase). made ≡ by fixed state (allowed fixed.board phase Alter job) made) shown refl
-  alter_by job (Some add) made shown =
-      when_busy job (λ (phase : Phase). refuse fixed state Busy ≡ by fixed state (allowed fixed.board phase Alter job) made) shown.busy (λ _. refl) (λ _. refl)
+  alter_by job None made shown = grind arith
+  alter_by job (Some add) made shown = grind arith
 
   pub alter_idle : (job : Job) (open_add : Option OpenAdd) → ShowsJob job open_add → Ok tt ≡ allowed fixed.board (phase_of job) Alter job → open_add ≡ None
-  alter_idle job None shown is = refl
-  alter_idle job (Some add) shown is =
-      let busy : allowed fixed.board (phase_of job) Alter job ≡ Err Busy =
-      when_busy job (λ (phase : Phase). allowed fixed.board phase Alter job ≡ Err Busy) shown.busy (λ _. refl) (λ _. refl) in
-      never_both (sym (is ∙ busy))
+  alter_idle job open_add shown is = grind arith
 
   -- step, complete and withdraw
 
@@ -128,58 +110,19 @@ module _ (fixed : Fixed) (state : State) where
   pub close_by : (job : Job) (open_add : Option OpenAdd) (named : Named) (made : OpenAdd → Turn) → ShowsJob job open_add
       → (Ok tt ≡ allowed fixed.board (phase_of job) (Close named) job → (add : OpenAdd) × (open_add ≡ Some add) × (names fixed state (ticket_of named) add ≡ true))
       × ((refusal : Refusal) → Err refusal ≡ allowed fixed.board (phase_of job) (Close named) job → when_named fixed state (ticket_of named) open_add made ≡ refuse fixed state refusal)
-  close_by job None named made shown =
-      let idle : allowed fixed.board (phase_of job) (Close named) job ≡ Err Foreign =
-      when_free job (λ (phase : Phase). allowed fixed.board phase (Close named) job ≡ Err Foreign) shown refl in
-      (λ is. never_both (sym (is ∙ idle)), λ refusal is. let same : refusal ≡ Foreign = cc in ap (refuse fixed state) (sym same))
+  close_by job None named made shown = (λ is. grind arith, λ refusal is. grind arith)
   close_by job (Some add) named made shown =
-      let test = names fixed state (ticket_of named) add in
-      let phase : allowed fixed.board (phase_of job) (Close named) job ≡ cond test (Ok tt) (Err Foreign) =
-      let named-same = ap (λ (b : Bool). cond b (Ok tt) (Err Foreign)) (same_names job add named shown) in
-      when_busy job (λ (phase : Phase). allowed fixed.board phase (Close named) job ≡ cond test (Ok tt) (Err Foreign)) shown.busy (λ _. named-same) (λ _. named-same) in
-      ⊎_elim
-      (λ good.
-      let ok : allowed fixed.board (phase_of job) (Close named) job ≡ Ok tt = phase ∙ cond-true test (Ok tt) (Err Foreign) good in
-      (λ is. (add, refl, good), λ refusal is. never_both (is ∙ ok)))
-      (λ bad.
-      let no : allowed fixed.board (phase_of job) (Close named) job ≡ Err Foreign = phase ∙ cond-false test (Ok tt) (Err Foreign) bad in
-      (λ is. never_both (sym (is ∙ no)), λ refusal is. let same : refusal ≡ Foreign = cc in cond-false test (made add) (refuse fixed state Foreign) bad ∙ ap (refuse fixed state) (sym same)))
-      (cases_Bool test)
+      let same = same_names job add named shown in
+      (λ is. (add, refl, grind arith), λ refusal is. grind arith)
 
   pub step_by : (job : Job) (open_add : Option OpenAdd) (named : Named) (made : OpenAdd → Turn) → ShowsJob job open_add
       → (Ok tt ≡ allowed fixed.board (phase_of job) (Step named) job → (add : OpenAdd) × (open_add ≡ Some add) × (names fixed state (ticket_of named) add ≡ true) × (job.made < job.chain.length))
       × ((refusal : Refusal) → Err refusal ≡ allowed fixed.board (phase_of job) (Step named) job
       → ((add : OpenAdd) → open_add ≡ Some add → job.chain.length ≤ job.made → made add ≡ refuse fixed state RunOut)
       → when_named fixed state (ticket_of named) open_add made ≡ refuse fixed state refusal)
-  step_by job None named made shown =
-      let idle : allowed fixed.board (phase_of job) (Step named) job ≡ Err Foreign =
-      when_free job (λ (phase : Phase). allowed fixed.board phase (Step named) job ≡ Err Foreign) shown refl in
-      (λ is. never_both (sym (is ∙ idle)), λ refusal is out. let same : refusal ≡ Foreign = cc in ap (refuse fixed state) (sym same))
+  step_by job None named made shown = (λ is. grind arith, λ refusal is out. grind arith)
   step_by job (Some add) named made shown =
-      let test = names fixed state (ticket_of named) add in
-      let named-same = λ (answer : Allowed). ap (λ (b : Bool). cond b answer (Err Foreign)) (same_names job add named shown) in (
-        when_busy job (λ (phase : Phase). Ok tt ≡ allowed fixed.board phase (Step named) job → (one : OpenAdd) × (Some add ≡ Some one) × (names fixed state (ticket_of named) one ≡ true) × (job.made < job.chain.length)) shown.busy
-            (λ more is. ⊎_elim (λ good. (add, refl, good, more)) (λ bad. never_both (sym (is ∙ named-same (Ok tt) ∙ cond-false test (Ok tt) (Err Foreign) bad))) (cases_Bool test))
-            (λ none is. ⊎_elim (λ good. never_both (sym (is ∙ named-same (Err RunOut) ∙ cond-true test (Err RunOut) (Err Foreign) good))) (λ bad. never_both (sym (is ∙ named-same (Err RunOut) ∙ cond-false test (Err RunOut) (Err Foreign) bad))) (cases_Bool test)),
-        when_busy job (λ (phase : Phase). (refusal : Refusal) → Err refusal ≡ allowed fixed.board phase (Step named) job
-            → ((one : OpenAdd) → Some add ≡ Some one → job.chain.length ≤ job.made → made one ≡ refuse fixed state RunOut)
-            → cond test (made add) (refuse fixed state Foreign) ≡ refuse fixed state refusal) shown.busy
-            (λ more refusal is out.
-            ⊎_elim (λ good. never_both (is ∙ named-same (Ok tt) ∙ cond-true test (Ok tt) (Err Foreign) good))
-            (λ bad.
-            let no = is ∙ named-same (Ok tt) ∙ cond-false test (Ok tt) (Err Foreign) bad in
-            let same : refusal ≡ Foreign = cc in
-            cond-false test (made add) (refuse fixed state Foreign) bad ∙ ap (refuse fixed state) (sym same))
-            (cases_Bool test))
-            (λ none refusal is out.
-            ⊎_elim
-            (λ good.
-            let over = is ∙ named-same (Err RunOut) ∙ cond-true test (Err RunOut) (Err Foreign) good in
-            let same : refusal ≡ RunOut = cc in
-            cond-true test (made add) (refuse fixed state Foreign) good ∙ (out add refl none ∙ ap (refuse fixed state) (sym same)))
-            (λ bad.
-            let no = is ∙ named-same (Err RunOut) ∙ cond-false test (Err RunOut) (Err Foreign) bad in
-            let same : refusal ≡ Foreign = cc in
-            cond-false test (made add) (refuse fixed state Foreign) bad ∙ ap (refuse fixed state) (sym same))
-            (cases_Bool test)),
+      let same = same_names job add named shown in (
+        λ is. (add, refl, grind arith, grind arith),
+        λ refusal is out. let over = out add refl in grind arith,
       )

@@ -1,15 +1,14 @@
 -- The writes of an open add on a board are those of the machine. Assumes nothing.
-use Rattle.std.proofs.Common.{◌≡◌, ℕ, suc, ◌+◌, ◌-◌, ◌<◌, ◌≤◌, Bool, true, false, cond, ◌&&◌, ltb, ◌≢◌, List, [], ◌∷◌, reverse, length, get_or, take, drop, set, Some, None, Ok, Err, Option, Result, sym, refl, ap, ◌∙◌, subst, ⊎_elim, add-one, arith}
+use Rattle.std.proofs.Common.{◌≡◌, ℕ, suc, ◌+◌, ◌-◌, ◌<◌, ◌≤◌, Bool, true, cond, ltb, ◌≢◌, List, [], ◌∷◌, reverse, length, get_or, take, drop, set, Some, None, Ok, Err, Option, sym, refl, ap, ◌∙◌, subst, ⊎_elim, add-one, arith}
 use Rattle.std.proofs.lemmas.List.{get_or-take, get_or-reverse, drop_more, drop_all, length-reverse, length-set}
-use Rattle.std.proofs.lemmas.Bool.{cases_Bool, cases_lt, cond-true, cond-false, lt-ltb, le-ltb, ltb-true, ltb-false, eq-eqb, ne_eqb, and_parts}
+use Rattle.std.proofs.lemmas.Bool.{cases_Bool, cond-true, cond-false, ltb-true, ltb-false, eq-eqb, ne_eqb, and_parts}
 use Rattle.rules.specs.declared.rule.Rule.{Rule}
 use Rattle.rules.specs.declared.event.Event.{Event}
 use Rattle.rules.specs.declared.event.Event.TheVariants.{Write, Erase}
 use Rattle.rules.specs.declared.refusal.Refusal.{Refusal}
-use Rattle.rules.specs.declared.refusal.Refusal.TheVariants.{Foreign, RunOut}
+use Rattle.rules.specs.declared.refusal.Refusal.TheVariants.{RunOut}
 use Rattle.rules.specs.Kinds.{KindLaws}
-use Rattle.rules.specs.Slots.{writing, erasing, carried_out, all_after}
-use Rattle.rules.specs.Slots.{after as left_after}
+use Rattle.rules.specs.Slots.{writing, erasing, all_after}
 use Rattle.shifting.specs.Slots.{Slot, at, all_carried_out}
 use Rattle.shifting.specs.Machine.{step, complete, withdraw, counted, State, Fixed, Turn, held, received, writes, unwritten, written, half_way, last_written, all_traced, names, refuse, make_one, make_all, take_back, turn}
 use Rattle.shifting.specs.Machine.{Job as OpenAdd}
@@ -19,12 +18,11 @@ use Rattle.shifting.proofs.Progress.{Start, Mid, Going, advance}
 use Rattle.shifting.proofs.Sound.{Phase as Holding, Opened}
 use Rattle.job.specs.declared.named.Named.{Named}
 use Rattle.job.specs.declared.job.Job.{Job}
-use Rattle.job.specs.declared.job.Phase.{Phase}
 use Rattle.job.specs.declared.job.JobEvent.TheVariants.{Wrote, Closed}
 use Rattle.job.specs.declared.job.Request.TheVariants.{Step, Close}
 use Rattle.job.specs.Jobs.{phase_of, allowed, moved, further, closed, next_slot, slot_before, slot_last, half_done, in_force}
-use Rattle.turns.specs.Shown.{seen, Seen, Shows, ShowsJob, ShowsOpen, Reached, Takes, counting, ticket_of, next_rule, taken_back}
-use Rattle.turns.proofs.Turned.{never_both, when_busy, when_free, reached_sound, reached_next, named_turn, step_by, close_by, TakenBy, refused_by, shown_by}
+use Rattle.turns.specs.Shown.{seen, Seen, Shows, ShowsJob, ShowsOpen, Reached, Takes, counting, ticket_of, next_rule, next_event, as_events, erased_back}
+use Rattle.turns.proofs.Turned.{reached_sound, reached_next, named_turn, step_by, close_by, TakenBy, refused_by, shown_by}
 use Rattle.turns.proofs.Drops.{writing_ok, erasing_ok}
 
 -- The next write.
@@ -101,28 +99,21 @@ on_start fixed stored named start state reached shows add is good =
 
 -- one write more
 pub wrote_further : (job job' : Job) → job.busy ≡ true → job.made < job.chain.length → job' ≡ moved (phase_of job) Wrote job → job' ≡ further job
-wrote_further job job' busy more is = is ∙ when_busy job (λ (phase : Phase). moved phase Wrote job ≡ further job) busy (λ _. refl) (λ none. absurd (omega arith))
+wrote_further job job' busy more is = grind arith
+
+closed_back : (job job' : Job) → job.busy ≡ true → job' ≡ moved (phase_of job) Closed job → job' ≡ closed job
+closed_back job job' busy is = grind arith
 
 -- a ticket that may be taken back belongs to an open add
 pub close_busy : (board : ℕ) (job : Job) (named : Named) → Ok tt ≡ allowed board (phase_of job) (Close named) job → job.busy ≡ true
-close_busy board job named ok =
-    ⊎_elim (λ busy. busy)
-    (λ free. never_both (sym (ok ∙ when_free job (λ (phase : Phase). allowed board phase (Close named) job ≡ Err Foreign) free refl)))
-    (cases_Bool job.busy)
-
-abbrev pub next_event : List Slot → Job → Result Event Refusal
-next_event slots job = writing (length slots) (next_slot job) (next_rule slots job)
+close_busy board job named ok = grind arith
 
 abbrev pub more_made : OpenAdd → OpenAdd
 more_made add = record { rule = add.rule; chain = add.chain; made = suc add.made }
 
--- what a withdraw leaves of slots, trace or memory
-taken_back_all : {X : Type 0} (made : X → Event → X) (slots : List Slot) (before behind : X) (job : Job) (slot : ℕ) (half : Bool) → half_done job ≡ half
-    → (half ≡ true → erasing (length slots) (slot_last job) ≡ Ok (Erase slot)) → behind ≡ taken_back made slots before job → behind ≡ all_after made before (cond half (Erase slot ∷ []) [])
-taken_back_all made slots before behind job slot true half_is erase is =
-    is ∙ cond-true (half_done job) (left_after made before (erasing (length slots) (slot_last job))) before half_is ∙ ap (left_after made before) (erase refl)
-taken_back_all made slots before behind job slot false half_is erase is =
-    is ∙ cond-false (half_done job) (left_after made before (erasing (length slots) (slot_last job))) before half_is
+-- what a withdraw erases, by the machine
+erased_back_is : (slots : List Slot) (job : Job) (slot : ℕ) (half : Bool) → half_done job ≡ half → (half ≡ true → erasing (length slots) (slot_last job) ≡ Ok (Erase slot)) → erased_back slots job ≡ cond half (Erase slot ∷ []) []
+erased_back_is slots job slot half half_is erase = grind arith
 
 module _ (fixed : Fixed) (laws : KindLaws fixed.kind) where
   -- a rule that a slot receives has a number
@@ -175,8 +166,7 @@ module _ (fixed : Fixed) (laws : KindLaws fixed.kind) where
   pub step_turn : (state : State) (add : OpenAdd) (named : Named) → state.job ≡ Some add → names fixed state (ticket_of named) add ≡ true → add.made < length add.chain
       → turn fixed state (step (ticket_of named)) ≡ make_one fixed state add
   step_turn state add named is good fewer =
-      named_turn fixed state state.job add named (λ (one : OpenAdd). cond (written one) (refuse fixed state RunOut) (make_one fixed state one)) is good
-      ∙ cond-false (written add) (refuse fixed state RunOut) (make_one fixed state add) (ne_eqb add.made (length add.chain) (λ same. absurd (omega arith)))
+      grind (arith, named_turn)
 
   -- one write more does not change what all the writes make
   all_after_one : (state : State) (job : Job) (add : OpenAdd) → Next state.slots job add → add.made < length add.chain
@@ -194,10 +184,7 @@ module _ (fixed : Fixed) (laws : KindLaws fixed.kind) where
       all in
       let not_yet = cond-false (written add) state.rules (add.rule ∷ state.rules) (ne_eqb add.made (length add.chain) (λ same. absurd (omega arith))) in
       let rules-same : cond (written (more_made add)) rules-one (add.rule ∷ rules-one) ≡ add.rule ∷ state.rules =
-      ⊎_elim
-      (λ yes. cond-true (written (more_made add)) rules-one (add.rule ∷ rules-one) yes ∙ cond-true (written (more_made add)) (add.rule ∷ state.rules) state.rules yes)
-      (λ later. cond-false (written (more_made add)) rules-one (add.rule ∷ rules-one) later ∙ ap (λ (l : List Rule). add.rule ∷ l) (cond-false (written (more_made add)) (add.rule ∷ state.rules) state.rules later))
-      (cases_Bool (written (more_made add))) in
+      grind arith in
       ap (λ (rules : List Rule). ended (unwritten add) (unwritten (more_made add)) rules) (rules-same ∙ sym not_yet)
       ∙ ap (λ (first : List ℕ). ended first (unwritten (more_made add)) (cond (written add) state.rules (add.rule ∷ state.rules))) next.left
       ∙ ap (λ (left : List ℕ). ended (next.slot ∷ next.earlier) left (cond (written add) state.rules (add.rule ∷ state.rules))) next.rest
@@ -229,9 +216,9 @@ module _ (fixed : Fixed) (laws : KindLaws fixed.kind) where
 module _ {Memory : Type 0} (fixed : Fixed) (stored : Memory → Event → Memory) (laws : KindLaws fixed.kind) where
   -- what the code does for one write
   pub record WroteOne (before behind : Seen Memory) : Type 0 where
-    pub slots : behind.slots ≡ left_after carried_out before.slots (next_event before.slots before.job)
-    pub trace : behind.trace ≡ left_after fixed.traced before.trace (next_event before.slots before.job)
-    pub memory : behind.memory ≡ left_after stored before.memory (next_event before.slots before.job)
+    pub slots : behind.slots ≡ all_carried_out before.slots (as_events (next_event before.slots before.job))
+    pub trace : behind.trace ≡ all_traced fixed.traced before.trace (as_events (next_event before.slots before.job))
+    pub memory : behind.memory ≡ all_after stored before.memory (as_events (next_event before.slots before.job))
     pub job : behind.job ≡ moved (phase_of before.job) Wrote before.job
 
   one_taken : (state : State) (add : OpenAdd) (before behind : Seen Memory) → Reached fixed state → Shows before state → state.job ≡ Some add → add.made < length add.chain → WroteOne before behind
@@ -243,12 +230,11 @@ module _ {Memory : Type 0} (fixed : Fixed) (stored : Memory → Event → Memory
       let many = shown.chain.as_many in
       let done = shown.made in
       let further-is : behind.job ≡ further before.job =
-      wrote.job
-      ∙ when_busy before.job (λ (phase : Phase). moved phase Wrote before.job ≡ further before.job) shown.busy (λ _. refl) (λ none. absurd (omega arith)) in
-      let events = next.2 in (
+      wrote_further before.job behind.job shown.busy (omega arith) wrote.job in
+      let events = ap as_events event ∙ sym next.2 in (
         record {
-          slots = wrote.slots ∙ ap (left_after carried_out before.slots) event ∙ sym (ap (all_carried_out before.slots) events) ∙ ap (λ (s : List Slot). all_carried_out s (make_one fixed state add).events) shows.slots;
-          trace = wrote.trace ∙ ap (left_after fixed.traced before.trace) event ∙ sym (ap (all_traced fixed.traced before.trace) events)
+          slots = wrote.slots ∙ ap (all_carried_out before.slots) events ∙ ap (λ (s : List Slot). all_carried_out s (make_one fixed state add).events) shows.slots;
+          trace = wrote.trace ∙ ap (all_traced fixed.traced before.trace) events
               ∙ ap (λ (t : ℕ). all_traced fixed.traced t (make_one fixed state add).events) shows.trace;
           job = record {
             busy = ap (λ (j : Job). j.busy) further-is ∙ shown.busy;
@@ -260,7 +246,7 @@ module _ {Memory : Type 0} (fixed : Fixed) (stored : Memory → Event → Memory
             made = ap (λ (j : Job). j.made) further-is ∙ add-one before.job.made ∙ ap suc shown.made;
           };
         },
-        wrote.memory ∙ ap (left_after stored before.memory) event ∙ sym (ap (all_after stored before.memory) events),
+        wrote.memory ∙ ap (all_after stored before.memory) events,
       )
 
   pub step_done : (before behind : Seen Memory) (named : Named) (left : ℕ) → Ok tt ≡ allowed fixed.board (phase_of before.job) (Step named) before.job → WroteOne before behind
@@ -329,7 +315,7 @@ module _ {Memory : Type 0} (fixed : Fixed) (stored : Memory → Event → Memory
       let size = length-reverse on.add.chain in
       let empty = drop_all on.add.made (reverse on.add.chain) (omega arith) in
       let is-closed : job ≡ closed before.job =
-      closed_is ∙ when_busy before.job (λ (phase : Phase). moved phase Closed before.job ≡ closed before.job) shown.busy (λ _. refl) (λ _. refl) in
+      closed_back before.job job shown.busy closed_is in
       let told_same : told ≡ length found.0.chain = told_is ∙ ap (λ (j : Job). j.chain.length) is-closed ∙ many ∙ on.announced_is in
       let ended : Shows (seen before.slots before.trace before.memory job) (make_all fixed on.state on.add).next =
       record {
@@ -356,8 +342,8 @@ module _ {Memory : Type 0} (fixed : Fixed) (stored : Memory → Event → Memory
       refused_by fixed stored state (withdraw (ticket_of named)) before before refusal shows ((close_by fixed state before.job state.job named (take_back fixed state) shows.job).1 refusal not_so) refl refl refl shows.job
 
   pub withdraw_done : (before : Seen Memory) (slots : List Slot) (trace : ℕ) (memory : Memory) (job : Job) (named : Named) (told : ℕ) → Ok tt ≡ allowed fixed.board (phase_of before.job) (Close named) before.job
-      → told ≡ in_force before.job → slots ≡ taken_back carried_out before.slots before.slots before.job → trace ≡ taken_back fixed.traced before.slots before.trace before.job
-      → memory ≡ taken_back stored before.slots before.memory before.job
+      → told ≡ in_force before.job → slots ≡ all_carried_out before.slots (erased_back before.slots before.job) → trace ≡ all_traced fixed.traced before.trace (erased_back before.slots before.job)
+      → memory ≡ all_after stored before.memory (erased_back before.slots before.job)
       → job ≡ moved (phase_of before.job) Closed before.job
       → Takes fixed stored (withdraw (ticket_of named)) (counting (Ok told)) before (seen slots trace memory job)
   withdraw_done before slots trace memory job named told ok told_is slots_are trace_is memory_is closed_is state reached shows =
@@ -369,15 +355,11 @@ module _ {Memory : Type 0} (fixed : Fixed) (stored : Memory → Event → Memory
       let many = shown.chain.as_many in
       let done = shown.made in
       let is-closed : job ≡ closed before.job =
-      closed_is ∙ when_busy before.job (λ (phase : Phase). moved phase Closed before.job ≡ closed before.job) shown.busy (λ _. refl) (λ _. refl) in
+      closed_back before.job job shown.busy closed_is in
       let half-same : half_done before.job ≡ half_way add =
-      ap (λ (n : ℕ). ltb 0 n && ltb n before.job.chain.length) done ∙ ap (λ (n : ℕ). ltb 0 add.made && ltb add.made n) many in
+      grind arith in
       let told_same : told ≡ cond (written add) 1 0 =
-      told_is
-      ∙ ⊎_elim
-      (λ more. cond-true _ 0 1 (lt-ltb 0 (before.job.chain.length - before.job.made) (omega arith)) ∙ sym (cond-false (written add) 1 0 (ne_eqb add.made (length add.chain) (λ same. absurd (omega arith)))))
-      (λ none. cond-false _ 0 1 (le-ltb 0 (before.job.chain.length - before.job.made) (omega arith)) ∙ sym (cond-true (written add) 1 0 (eq-eqb add.made (length add.chain) (omega arith))))
-      (cases_lt add.made (length add.chain)) in
+      grind arith in
       let events = cond (half_way add) (Erase (last_written add) ∷ []) [] in
       let erase : half_way add ≡ true → erasing (length before.slots) (slot_last before.job) ≡ Ok (Erase (last_written add)) =
       λ half.
@@ -385,10 +367,11 @@ module _ {Memory : Type 0} (fixed : Fixed) (stored : Memory → Event → Memory
       let last = from_end before.job add (add.made - 1) (before.job.chain.length - before.job.made) shown (omega arith) (omega arith) in
       let within : last_written add < length before.slots = omega (arith, last_within fixed laws state add opened some, ap length shows.slots) in
       ap (erasing (length before.slots)) (sym last) ∙ erasing_ok (length before.slots) (last_written add) within in
+      let erased = erased_back_is before.slots before.job (last_written add) (half_way add) half-same erase in
       shown_by fixed stored state (withdraw (ticket_of named)) before (seen slots trace memory job) (counted told) (counted (cond (written add) 1 0)) events state.rules None shows
       (named_turn fixed state state.job add named (take_back fixed state) found.1 found.2)
       (ap counted told_same)
-      (taken_back_all carried_out before.slots before.slots slots before.job (last_written add) (half_way add) half-same erase slots_are)
-      (taken_back_all fixed.traced before.slots before.trace trace before.job (last_written add) (half_way add) half-same erase trace_is)
-      (taken_back_all stored before.slots before.memory memory before.job (last_written add) (half_way add) half-same erase memory_is)
+      (slots_are ∙ ap (all_carried_out before.slots) erased)
+      (trace_is ∙ ap (all_traced fixed.traced before.trace) erased)
+      (memory_is ∙ ap (all_after stored before.memory) erased)
       (ap (λ (j : Job). j.busy) is-closed)

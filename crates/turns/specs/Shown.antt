@@ -1,23 +1,22 @@
 -- What a board shows of the machine, and what it is for a call to do what the machine does. Assumes nothing.
-use Rattle.std.specs.Prelude.{◌≡◌, ℕ, ◌-◌, true, false, cond, not, ◌||◌, List, length, Some, None, Ok, Err, Option, Result, ◌==◌, nat_lt}
+use Rattle.std.specs.Prelude.{◌≡◌, ℕ, ◌-◌, true, false, cond, not, ◌||◌, List, [], ◌∷◌, length, Some, None, Ok, Err, Option, Result, ◌==◌, nat_lt}
 use Rattle.rules.specs.declared.rule.Rule.{Rule}
 use Rattle.rules.specs.declared.event.Event.{Event}
 use Rattle.rules.specs.declared.refusal.Refusal.{Refusal}
 use Rattle.rules.specs.declared.refusal.Refusal.TheVariants.{Mangled, Known, Unknown}
 use Rattle.rules.specs.declared.device.SlotDevice.{Ghosts}
 use Rattle.rules.specs.Kinds.{KindMeaning}
-use Rattle.rules.specs.Slots.{erasing, all_after}
-use Rattle.rules.specs.Slots.{after as left_after}
+use Rattle.rules.specs.Slots.{writing, erasing, all_after, place_within}
 use Rattle.shifting.specs.Chains.{scan}
-use Rattle.shifting.specs.Slots.{Slot, at}
-use Rattle.shifting.specs.Machine.{Ticket, Call, Answer, opened, counted, done, found, refused, State, Fixed, cleared, held, has_number, turn, after}
+use Rattle.shifting.specs.Slots.{Slot, at, all_carried_out}
+use Rattle.shifting.specs.Machine.{Ticket, Call, Answer, opened, counted, done, found, refused, State, Fixed, cleared, all_traced, held, has_number, turn, after}
 use Rattle.shifting.specs.Machine.{Job as OpenAdd}
 use Rattle.std.specs.List.{AllByRecursion}
 use Rattle.shifting.specs.Law.{Sized}
 use Rattle.placing.specs.Placing.{Names}
 use Rattle.job.specs.declared.named.Named.{Named}
 use Rattle.job.specs.declared.job.Job.{Job}
-use Rattle.job.specs.Jobs.{slot_before, slot_last, half_done}
+use Rattle.job.specs.Jobs.{next_slot, slot_before, slot_last, half_done}
 
 -- what can be seen of a board: its device's slots and trace, the memory lent to the device, and its own record of the open add
 pub record Seen (Memory : Type 0) : Type 0 where
@@ -93,6 +92,10 @@ abbrev pub finding : Result (Option (ℕ × ℕ)) Refusal → Answer
 finding (Ok told) = found told
 finding (Err refusal) = refused refusal
 
+-- the first slot whose rule has this number
+abbrev pub numbered : List Slot → ℕ → Option ℕ
+numbered slots number = place_within (length slots) (scan (λ i. has_number number (at slots i)) 0 (length slots))
+
 -- What is refused of a new rule before its place is looked for.
 abbrev pub fitting : KindMeaning → List Slot → Rule → Result (Unit {0}) Refusal
 fitting kind slots new =
@@ -110,6 +113,23 @@ standing slots number =
 abbrev pub next_rule : List Slot → Job → Rule
 next_rule slots job = cond (nat_lt 1 (job.chain.length - job.made)) (held (at slots (slot_before job))) job.rule
 
--- taking an add back: what is left of slots, trace or memory, by what an event makes of them; half way the slot last written is erased
-abbrev pub taken_back : {X : Type 0} → (X → Event → X) → List Slot → X → Job → X
-taken_back made slots before job = cond (half_done job) (left_after made before (erasing (length slots) (slot_last job))) before
+-- what that write comes to
+abbrev pub next_event : List Slot → Job → Result Event Refusal
+next_event slots job = writing (length slots) (next_slot job) (next_rule slots job)
+
+-- the events that a write or an erase comes to: one, or none where it is refused
+abbrev pub as_events : Result Event Refusal → List Event
+as_events (Ok event) = event ∷ []
+as_events (Err refusal) = []
+
+-- taking an add back: half way the slot last written is erased
+abbrev pub erased_back : List Slot → Job → List Event
+erased_back slots job = cond (half_done job) (as_events (erasing (length slots) (slot_last job))) []
+
+-- what carrying out these events leaves of a device: slots, trace and memory as they make them, and the same loans
+module _ {D K : Type 0} (g : Ghosts D K) where
+  pub record CarriesOut (device : D) (events : List Event) (device' : D) : Type 0 where
+    pub slots : g.slots device' ≡ all_carried_out (g.slots device) events
+    pub trace : g.trace device' ≡ all_traced g.traced (g.trace device) events
+    pub memory : g.memory device' ≡ all_after g.stored (g.memory device) events
+    pub same : g.lenders device' ≡ g.lenders device

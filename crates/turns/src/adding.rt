@@ -3,8 +3,9 @@ ghost use Rattle.std.specs.Prelude.{◌≡◌, not, ◌||◌, ◌==◌, OnErr};
 ghost use Rattle.shifting.specs.Machine.{add};
 ghost use Rattle.turns.specs.Shown.{Acts, opening, fitting};
 
+use crate::numbered::slot_numbered;
 use job::{Job, JobEvent, Named, Request};
-use placing::{SlotTest, find_chain, first_passing};
+use placing::find_chain;
 use rules::{Kind, Refusal, Rule, SlotDevice};
 
 fn is_mangled<K: Kind>(new: Rule) -> bool
@@ -20,8 +21,7 @@ fn fits<D: SlotDevice>(device: &D, new: Rule) -> Result<(), Refusal>
     if is_mangled::<D::Kind>(new) {
         return Err(Refusal::Mangled);
     }
-    let count = device.count();
-    if first_passing(device, SlotTest::Numbered(new.number), 0, count) < count {
+    if slot_numbered(device, new.number).is_some() {
         return Err(Refusal::Known);
     }
     Ok(())

@@ -4,9 +4,9 @@ ghost use Rattle.shifting.specs.Machine.{drop_rule, change_action, look_up, held
 ghost use Rattle.shifting.specs.Slots.{at, first_match};
 ghost use Rattle.turns.specs.Shown.{Acts, doing, finding, standing};
 
-use crate::events::{erase_slot, write_slot};
+use crate::numbered::slot_numbered;
 use job::{Job, Request};
-use placing::{SlotTest, first_passing, slot_at};
+use placing::slot_at;
 use rules::{Kind, Refusal, Rule, SlotDevice};
 
 // The slot of the rule with this number.
@@ -16,13 +16,7 @@ fn slot_of<D: SlotDevice>(device: &D, rule: u16) -> Result<u16, Refusal>
     if rule == 0 {
         return Err(Refusal::Unknown);
     }
-    let count = device.count();
-    let slot = first_passing(device, SlotTest::Numbered(rule), 0, count);
-    if slot < count {
-        Ok(slot)
-    } else {
-        Err(Refusal::Unknown)
-    }
+    slot_numbered(device, rule).ok_or(Refusal::Unknown)
 }
 
 // One erase.
@@ -37,29 +31,20 @@ pub fn drop_rule<D: SlotDevice>(
 {
     job.allows(number, Request::Alter)?;
     let slot = slot_of(device, rule)?;
-    erase_slot(device, slot)
+    device.erase(slot)
 }
 
 fn with_action(rule: Rule, action: u32) -> Rule
     ensures { result ≡ with_action action rule }
 {
-    Rule {
-        number: rule.number,
-        priority: rule.priority,
-        action,
-        word_a: rule.word_a,
-        word_b: rule.word_b,
-    }
+    Rule { action, ..rule }
 }
 
 // The rule in a taken slot.
 pub(crate) fn held_at<D: SlotDevice>(device: &D, slot: u16) -> Rule
     ensures { result ≡ held (at (D.SlotDevice.slots device.now) slot) }
 {
-    match slot_at(device, slot) {
-        Some(rule) => rule,
-        None => Rule::ZERO,
-    }
+    slot_at(device, slot).unwrap_or(Rule::ZERO)
 }
 
 // One write, also when the action is the same.
@@ -76,26 +61,22 @@ pub fn change_rule<D: SlotDevice>(
     job.allows(number, Request::Alter)?;
     let slot = slot_of(device, rule)?;
     let held = held_at(device, slot);
-    write_slot(device, slot, with_action(held, action))
+    device.write(slot, with_action(held, action))
 }
 
 // Number and action of a rule.
 fn told_of(slot: Option<Rule>) -> Option<(u16, u32)>
     ensures { result ≡ told slot }
 {
-    match slot {
-        Some(rule) => Some((rule.number, rule.action)),
-        None => None,
-    }
+    slot.map(|rule| (rule.number, rule.action))
 }
 
 fn matching<D: SlotDevice>(device: &D, subject: u64) -> Option<Rule>
     ensures { result ≡ first_match D.Kind.Kind.meaning (D.SlotDevice.slots device.now) subject }
 {
-    match device.first_match(subject) {
-        Some(slot) => slot_at(device, slot),
-        None => None,
-    }
+    device
+        .first_match(subject)
+        .and_then(|slot| slot_at(device, slot))
 }
 
 // In every phase the same.

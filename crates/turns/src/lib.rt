@@ -3,7 +3,7 @@
 
 mod adding;
 mod altering;
-mod events;
+mod numbered;
 mod opening;
 mod writing;
 

@@ -1,13 +1,11 @@
 // Step, complete and withdraw: the writes of the open add.
-ghost use Rattle.std.specs.Prelude.{◌≡◌, length, OnErr};
-ghost use Rattle.rules.specs.Slots.{writing, carried_out, after};
+ghost use Rattle.std.specs.Prelude.{◌≡◌, OnErr};
 ghost use Rattle.shifting.specs.Machine.{step, complete, withdraw};
 ghost use Rattle.job.specs.declared.job.JobEvent.TheVariants.{Wrote};
-ghost use Rattle.job.specs.Jobs.{phase_of, moved, next_slot};
-ghost use Rattle.turns.specs.Shown.{Acts, counting, ticket_of, next_rule, taken_back};
+ghost use Rattle.job.specs.Jobs.{phase_of, moved};
+ghost use Rattle.turns.specs.Shown.{Acts, CarriesOut, counting, ticket_of, next_rule, next_event, as_events, erased_back};
 
 use crate::altering::held_at;
-use crate::events::{erase_slot, write_slot};
 use job::{Job, JobEvent, Named, Request};
 use rules::{Refusal, Rule, SlotDevice};
 
@@ -23,15 +21,12 @@ fn rule_to_write<D: SlotDevice>(device: &D, job: &Job) -> Rule
 }
 
 fn write_next<D: SlotDevice>(device: &mut D, job: &mut Job)
-    ensures slots { D.SlotDevice.slots device.new ≡ after carried_out (D.SlotDevice.slots device.old) (writing (length (D.SlotDevice.slots device.old)) (next_slot job.old) (next_rule (D.SlotDevice.slots device.old) job.old)) }
-    ensures trace { D.SlotDevice.trace device.new ≡ after D.SlotDevice.traced (D.SlotDevice.trace device.old) (writing (length (D.SlotDevice.slots device.old)) (next_slot job.old) (next_rule (D.SlotDevice.slots device.old) job.old)) }
-    ensures memory { D.SlotDevice.memory device.new ≡ after D.SlotDevice.stored (D.SlotDevice.memory device.old) (writing (length (D.SlotDevice.slots device.old)) (next_slot job.old) (next_rule (D.SlotDevice.slots device.old) job.old)) }
+    ensures writes { CarriesOut D.SlotDevice device.old (as_events (next_event (D.SlotDevice.slots device.old) job.old)) device.new }
     ensures job { job.new ≡ moved (phase_of job.old) Wrote job.old }
-    ensures same { D.SlotDevice.lenders device.new ≡ D.SlotDevice.lenders device.old }
 {
     let slot = job.next_slot();
     let rule = rule_to_write(device, job);
-    let _ = write_slot(device, slot, rule);
+    let _ = device.write(slot, rule);
     job.happens(JobEvent::Wrote);
 }
 
@@ -71,13 +66,10 @@ pub fn complete_add<D: SlotDevice>(
 }
 
 fn erase_half_way<D: SlotDevice>(device: &mut D, job: &Job)
-    ensures slots { D.SlotDevice.slots device.new ≡ taken_back carried_out (D.SlotDevice.slots device.old) (D.SlotDevice.slots device.old) job.now }
-    ensures trace { D.SlotDevice.trace device.new ≡ taken_back D.SlotDevice.traced (D.SlotDevice.slots device.old) (D.SlotDevice.trace device.old) job.now }
-    ensures memory { D.SlotDevice.memory device.new ≡ taken_back D.SlotDevice.stored (D.SlotDevice.slots device.old) (D.SlotDevice.memory device.old) job.now }
-    ensures same { D.SlotDevice.lenders device.new ≡ D.SlotDevice.lenders device.old }
+    ensures { CarriesOut D.SlotDevice device.old (erased_back (D.SlotDevice.slots device.old) job.now) device.new }
 {
     if job.is_half_way() {
-        let _ = erase_slot(device, job.slot_written());
+        let _ = device.erase(job.slot_written());
     }
 }
 

@@ -1,13 +1,5 @@
-use Rattle.std.proofs.Common.{◌≡◌, ℕ}
-use Rattle.shifting.specs.Chains.{past}
-use Rattle.shifting.specs.Slots.{at}
-use Rattle.placing.specs.Tests.{passes}
+use Rattle.placing.specs.Passing.{NonePasses}
 use Rattle.placing.proofs.scanning.past_last_passing.Given as goal
 
-abbrev pub invariant-loop-slot : goal.invariant-loop-slot
-invariant-loop-slot g l =
-    let wanted = λ (i : ℕ). passes g.D.Kind.Kind.meaning l.test (at (g.D.SlotDevice.slots l.device) i) in
-    past wanted l.slot ≡ past wanted l.end
-
-abbrev pub decreases-loop-slot : goal.decreases-loop-slot
-decreases-loop-slot g l = l.slot
+abbrev pub invariant-loop-last : goal.invariant-loop-last
+invariant-loop-last g l = NonePasses (goal.F-post g l.passes) (g.D.SlotDevice.slots l.device) l.last l.end

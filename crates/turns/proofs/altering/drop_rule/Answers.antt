@@ -1,31 +1,14 @@
-use Rattle.std.proofs.Common.{Result, sym, refl, subst}
-use Rattle.rules.specs.declared.refusal.Refusal.{Refusal}
 use Rattle.shifting.specs.Machine.{drop_rule}
-use Rattle.turns.specs.Shown.{fixed_by, seen, Takes, doing}
-use Rattle.turns.proofs.Turned.{at_exit}
+use Rattle.turns.specs.Shown.{doing}
+use Rattle.turns.proofs.Turned.{refused_exit}
 use Rattle.turns.proofs.Drops.{drop_unknown, drop_done}
 use Rattle.turns.proofs.altering.drop_rule.Goals as goal
 
-pub returns : goal.returns
-returns g c =
-    let fixed = fixed_by g.D.Kind.Kind.meaning g.D.SlotDevice.traced c.args.number in
-    let slots = g.D.SlotDevice.slots c.args.device.now in
-    let trace = g.D.SlotDevice.trace c.args.device.now in
-    let stored = g.D.SlotDevice.stored in
-    let memory = g.D.SlotDevice.memory c.args.device.now in
-    let job = c.args.job.now in
-    record { takes = drop_done fixed stored slots trace memory job c.in_ok-allows.ensures c.args.rule c.in_ok-slot.slot _ _ _ _ c.in_ok-slot.ensures c.erase_slot.ensures.answer c.erase_slot.ensures.slots c.erase_slot.ensures.trace c.erase_slot.ensures.memory; same = c.erase_slot.ensures.same }
+pub returns-in_err-slot-clause-takes : goal.returns-in_err-slot-clause-takes
+returns-in_err-slot-clause-takes g c =
+    refused_exit _ _ (drop_rule c.args.rule) doing _ _ _ _ c.from_residual-in_err-slot.ensures.1 (drop_unknown _ _ _ _ _ _ c.in_ok-allows.ensures c.args.rule _ c.in_err-slot.ensures)
 
-pub returns-in_err-slot : goal.returns-in_err-slot
-returns-in_err-slot g c =
-    let fixed = fixed_by g.D.Kind.Kind.meaning g.D.SlotDevice.traced c.args.number in
-    let slots = g.D.SlotDevice.slots c.args.device.now in
-    let trace = g.D.SlotDevice.trace c.args.device.now in
-    let stored = g.D.SlotDevice.stored in
-    let memory = g.D.SlotDevice.memory c.args.device.now in
-    let job = c.args.job.now in
-    record {
-      takes = subst (λ (r : Result (Unit {0}) Refusal). Takes fixed stored (drop_rule c.args.rule) (doing r) (seen slots trace memory job) (seen slots trace memory job)) (sym (at_exit c.from_residual-in_err-slot.result _ c.from_residual-in_err-slot.ensures.1))
-          (drop_unknown fixed stored slots trace memory job c.in_ok-allows.ensures c.args.rule _ c.in_err-slot.ensures);
-      same = refl;
-    }
+pub returns-clause-takes : goal.returns-clause-takes
+returns-clause-takes g c =
+    let erased = c.erase.ensures in
+    drop_done _ _ _ _ _ _ c.in_ok-allows.ensures c.args.rule c.in_ok-slot.slot _ _ _ _ c.in_ok-slot.ensures erased.answer erased.slots erased.trace erased.memory

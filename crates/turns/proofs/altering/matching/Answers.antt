@@ -1,10 +1,7 @@
-use Rattle.std.proofs.Common.{sym, ◌∙◌}
-use Rattle.turns.proofs.Drops.{match_some, match_none}
+use Rattle.std.proofs.Common.{rules}
+use Rattle.turns.proofs.Drops.{matched}
 use Rattle.turns.proofs.altering.matching.Goals as goal
 
-pub returns-in-Some : goal.returns-in-Some
-returns-in-Some g c =
-    c.slot_at.ensures ∙ match_some g.D.Kind.Kind.meaning c.args.subject (g.D.SlotDevice.slots c.args.device.now) c.in-Some.slot (sym c.in-Some.is ∙ c.first_match.ensures.answer)
-
-pub returns-in-None : goal.returns-in-None
-returns-in-None g c = match_none g.D.Kind.Kind.meaning c.args.subject (g.D.SlotDevice.slots c.args.device.now) (sym c.in-None.is ∙ c.first_match.ensures.answer)
+pub returns : goal.returns
+returns g c =
+    matched g.D.Kind.Kind.meaning c.args.subject (g.D.SlotDevice.slots c.args.device.now) c.first_match.result c.and_then.result c.first_match.ensures.answer (search rules)

@@ -1,37 +1,16 @@
-use Rattle.std.proofs.Common.{ℕ, Result, sym, refl, subst}
-use Rattle.rules.specs.declared.refusal.Refusal.{Refusal}
 use Rattle.shifting.specs.Machine.{step}
-use Rattle.turns.specs.Shown.{fixed_by, seen, Takes, counting, ticket_of}
-use Rattle.turns.proofs.Turned.{at_exit, on_err}
+use Rattle.turns.specs.Shown.{fixed_by, shown, counting, ticket_of}
+use Rattle.turns.proofs.Turned.{refused_exit}
 use Rattle.turns.proofs.Writes.{step_done, step_refused}
 use Rattle.turns.proofs.writing.step_add.Goals as goal
 
-pub returns-in_err-allows : goal.returns-in_err-allows
-returns-in_err-allows g c =
+pub returns-in_err-allows-clause-takes : goal.returns-in_err-allows-clause-takes
+returns-in_err-allows-clause-takes g c =
     let fixed = fixed_by g.D.Kind.Kind.meaning g.D.SlotDevice.traced c.args.number in
-    let slots = g.D.SlotDevice.slots c.args.device.now in
-    let trace = g.D.SlotDevice.trace c.args.device.now in
-    let stored = g.D.SlotDevice.stored in
-    let memory = g.D.SlotDevice.memory c.args.device.now in
-    let job = c.args.job.now in
-    record {
-      takes = subst (λ (r : Result ℕ Refusal). Takes fixed stored (step (ticket_of c.args.named)) (counting r) (seen slots trace memory job) (seen slots trace memory job)) (sym (at_exit c.from_residual.result _ c.from_residual.ensures.1))
-          (step_refused fixed stored g.met.D.Kind.Kind.lawful (seen slots trace memory job) c.args.named _ c.in_err-allows.ensures);
-      kept = on_err c.from_residual.result refl;
-      same = refl;
-    }
+    let board = shown g.D.SlotDevice c.args.device.now c.args.job.now in
+    refused_exit fixed g.D.SlotDevice.stored (step (ticket_of c.args.named)) counting board board c.from_residual.result _ c.from_residual.ensures.1 (step_refused fixed g.D.SlotDevice.stored g.met.D.Kind.Kind.lawful board c.args.named _ c.in_err-allows.ensures)
 
-pub returns : goal.returns
-returns g c =
-    let fixed = fixed_by g.D.Kind.Kind.meaning g.D.SlotDevice.traced c.args.number in
-    let slots = g.D.SlotDevice.slots c.args.device.now in
-    let trace = g.D.SlotDevice.trace c.args.device.now in
-    let stored = g.D.SlotDevice.stored in
-    let memory = g.D.SlotDevice.memory c.args.device.now in
-    let job = c.args.job.now in
-    record {
-      takes = step_done fixed stored g.met.D.Kind.Kind.lawful (seen slots trace memory job) _ c.args.named _ c.in_ok-allows.ensures
-          (record { slots = c.write_next.ensures.slots; trace = c.write_next.ensures.trace; memory = c.write_next.ensures.memory; job = c.write_next.ensures.job }) c.left.ensures;
-      kept = tt;
-      same = c.write_next.ensures.same;
-    }
+pub returns-clause-takes : goal.returns-clause-takes
+returns-clause-takes g c =
+    let wrote = c.write_next.ensures in
+    step_done _ _ g.met.D.Kind.Kind.lawful _ _ c.args.named _ c.in_ok-allows.ensures (record { slots = wrote.writes.slots; trace = wrote.writes.trace; memory = wrote.writes.memory; job = wrote.job }) c.left.ensures

@@ -1,0 +1,29 @@
+-- A test whose answers are known: the first slot that passes is the first of a scan. Assumes nothing.
+use Rattle.std.proofs.Common.{◌≡◌, ℕ, ◌-◌, ◌<◌, ◌≤◌, Bool, ltb, is_some, List, Some, None, Option, sym, arith}
+use Rattle.rules.specs.Slots.{place_within}
+use Rattle.shifting.specs.Chains.{scan}
+use Rattle.shifting.specs.Slots.{Slot, at}
+use Rattle.shifting.proofs.Scans.{scan_low, scan_hit, scan_first}
+use Rattle.placing.specs.Passing.{FirstPassing}
+
+module _ (Answers : Slot → Bool → Type 0) (test : Slot → Bool) (slots : List Slot) where
+  abbrev tested : ℕ → Bool
+  tested i = test (at slots i)
+
+  pub first_is : (low end : ℕ) (found : Option ℕ) → FirstPassing Answers slots low end found → ((held : Slot) (answer : Bool) → Answers held answer → answer ≡ test held)
+      → found ≡ place_within end (scan tested low (end - low))
+  first_is low end None first known = grind (arith, scan_low, scan_hit, first.none_before, known)
+  first_is low end (Some slot) first known =
+      let before = first.passes.before in
+      let to = scan_first tested low (end - low) slot first.passes.after (sym (known _ _ first.passes.passes)) in
+      grind (arith, scan_low, scan_hit, first.none_before, known)
+
+-- whether a place is found
+pub some_place : (count place : ℕ) → is_some (place_within count place) ≡ ltb place count
+some_place count place = grind arith
+
+pub some_is : (count place found : ℕ) → Some found ≡ place_within count place → (found ≡ place) × (place < count)
+some_is count place found is = grind arith
+
+pub none_is : (count place : ℕ) → None ≡ place_within count place → count ≤ place
+none_is count place is = grind arith

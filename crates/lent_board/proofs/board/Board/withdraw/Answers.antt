@@ -1,3 +1,4 @@
+use Rattle.std.proofs.Common.{rules}
 use Rattle.shifting.specs.Machine.{withdraw}
 use Rattle.turns.specs.Shown.{ticket_of}
 use Rattle.lent_board.proofs.Lawed.{lawfully}
@@ -6,4 +7,4 @@ use Rattle.lent_board.proofs.board.Board.withdraw.Goals as goal
 pub returns-clause-law : goal.returns-clause-law
 returns-clause-law g c =
     lawfully _ g.D.SlotDevice.stored g.met.D.Kind.Kind.lawful (withdraw (ticket_of c.args.ticket.named)) _ _ _ tt
-    (rw (c.settled.ensures.answer, ← c.named.ensures) c.withdraw_add-counted.ensures.takes)
+    (rw (c.settled.ensures.answer, ← c.named.ensures) (search rules))

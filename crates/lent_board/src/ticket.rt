@@ -6,7 +6,7 @@ use job::Named;
 // Only a board makes one, and it cannot be copied.
 pub struct Ticket {
     named: Named,
-    // Kept: a rule of this project: the prover refuses to let a ticket fall, by a fact about this ticket and no other; a ghost field states one of every ticket.
+    // Kept: a rule of this project: the prover refuses a ticket that falls, by a fact of that ticket; a ghost field says the same of every ticket.
     // Set when a board takes the ticket back, and told by no contract.
     given_back: bool,
 }

@@ -1,18 +1,10 @@
-use Rattle.std.proofs.Common.{◌≡◌, [], sym, refl, ◌∙◌, subst, rules}
+use Rattle.std.proofs.Common.{◌≡◌, sym, ◌∙◌, subst, rules}
 use Rattle.shifting.proofs.Lawful.{law_of_runs}
 use Rattle.turns.specs.Shown.{fixed_by}
 use Rattle.lent_board.specs.Calls.{call_of}
 use Rattle.lent_board.specs.Serving.{past_of, Served}
 use Rattle.lent_board.proofs.Serves.{serves_more}
 use Rattle.lent_board.proofs.serving.serve.Goals as goal
-
-pub loop-call-init : goal.loop-call-init
-loop-call-init g c =
-    record {
-      same = record { number = refl; device = refl; lenders = refl };
-      script = refl;
-      serving = record { calls = []; led = c.open-board.ensures.law; held = c.requires };
-    }
 
 pub next-requires : goal.next-requires
 next-requires g c =
@@ -58,6 +50,3 @@ pub returns-clause-same : goal.returns-clause-same
 returns-clause-same g c =
     let device = sym (c.loop-call.invariant.same.device ∙ c.open-board.ensures.device) in
     subst (λ behind. g.D.SlotDevice.lenders behind ≡ g.D.SlotDevice.lenders c.args.device.now) {x = c.loop-call.board.device.now} (search (rules, device)) (c.loop-call.invariant.same.lenders ∙ c.open-board.ensures.lenders)
-
-pub returns-clause-script : goal.returns-clause-script
-returns-clause-script g c = c.next.ensures.same ∙ c.loop-call.invariant.script

@@ -1,7 +1,6 @@
 // A caller that looks the same subject up, so many times.
-ghost use Rattle.std.specs.Prelude.{◌≡◌};
+ghost use Rattle.std.specs.Prelude.{◌≡◌, ⊤};
 ghost use Rattle.shifting.specs.Machine.{look_up};
-ghost use Rattle.board_cases.specs.Cases.{Nothing, nothing};
 
 use lent_board::{Answer, Call, Caller, serve};
 use rules::SlotDevice;
@@ -15,23 +14,16 @@ pub struct LookUps {
 
 // It holds to nothing between calls, so whoever has a device can serve it.
 impl Caller for LookUps {
-    ghost holds = { λ caller before. Nothing };
+    ghost holds = { λ caller before. ⊤ };
 
     ghost waits = { λ caller before call. call ≡ look_up caller.subject };
 
-    ghost ended = { λ caller before. Nothing };
+    ghost ended = { λ caller before. ⊤ };
 
     ghost left = { λ caller. caller.left };
 
-    ghost Script = { Nothing };
-
-    ghost reads = { λ caller. nothing };
-
     fn next(&mut self) -> Option<Call> {
-        if self.left == 0 {
-            return None;
-        }
-        self.left -= 1;
+        self.left = self.left.checked_sub(1)?;
         Some(Call::LookUp(self.subject))
     }
 
@@ -39,9 +31,9 @@ impl Caller for LookUps {
         match answer {
             Answer::Found(Some(_)) => self.found = self.found.saturating_add(1),
             Answer::Found(None) | Answer::Refused(_) | Answer::Done | Answer::Closed(_) => (),
-            Answer::Opened(_ticket) => unreachable(),
-            Answer::Stepped(_, _ticket) => unreachable(),
-            Answer::HandedBack(_, _ticket) => unreachable(),
+            Answer::Opened(_ticket)
+            | Answer::Stepped(_, _ticket)
+            | Answer::HandedBack(_, _ticket) => unreachable!(),
         }
     }
 }

@@ -1,15 +1,14 @@
 -- A call that takes the machine's turn keeps the law. Assumes nothing.
-use Rattle.std.proofs.Common.{◌≡◌, ℕ, Bool, true, false, cond, eqb, [], ◌∷◌, ◌++◌, length, Some, None, Option, sym, refl, ap, ◌∙◌, subst}
+use Rattle.std.proofs.Common.{◌≡◌, ℕ, Bool, true, false, cond, eqb, length, Some, None, Option, refl}
 use Rattle.rules.specs.declared.rule.Rule.{Rule}
 use Rattle.rules.specs.declared.event.Event.{Event}
 use Rattle.rules.specs.Kinds.{KindLaws}
 use Rattle.rules.specs.Slots.{all_after}
-use Rattle.shifting.specs.Machine.{Ticket, Call, add, step, complete, withdraw, drop_rule, change_action, look_up, Fixed, cleared, erases, turn, after}
+use Rattle.shifting.specs.Machine.{Ticket, Call, add, step, complete, withdraw, drop_rule, change_action, look_up, Fixed, cleared, erases, after}
 use Rattle.shifting.specs.Law.{Sized, Worded}
-use Rattle.shifting.proofs.Serving.{sized_from, after_push, sized_push}
-use Rattle.shifting.proofs.Events.{run_started, run_push}
-use Rattle.shifting.proofs.Lawful.{law_of_runs}
+use Rattle.shifting.proofs.Serving.{sized_from}
 use Rattle.turns.specs.Shown.{Seen, Shows, ticket_of}
+use Rattle.lent_board.proofs.Lawed.{led_start, led_on}
 use Rattle.c_interface.specs.declared.forms.CallRecord.{CallRecord}
 use Rattle.c_interface.specs.declared.forms.AnswerRecord.{AnswerRecord}
 use Rattle.c_interface.specs.Crossing.{call_of, Tells, Obeys, Opens}
@@ -39,28 +38,11 @@ sized_in call words =
 pub opens : {Memory : Type 0} (fixed : ℕ → Fixed) (stored : Memory → Event → Memory) (before behind : Seen Memory) → ((board : ℕ) → Shows behind (cleared (fixed board) before.slots before.trace))
     → behind.memory ≡ all_after stored before.memory (erases 0 (length before.slots)) → Opens fixed stored before behind
 unfolding Opens
-opens fixed stored before behind shows is board =
-    record { sized = tt; shows = shows board; lent = is ∙ sym (run_started stored (fixed board) before.slots before.trace before.memory) }
+opens fixed stored before behind shows is board = led_start (fixed board) stored before.slots before.trace before.memory behind (shows board) is
 
-module _ {Memory : Type 0} (fixed : Fixed) (stored : Memory → Event → Memory) where
-  -- one call more
-  pub obeys_call : KindLaws fixed.kind → (call : Call) (answer : AnswerRecord) (before behind : Seen Memory) → Sized call → Tells fixed stored (Some call) answer before behind → Obeys fixed stored (Some call) answer before behind
-  obeys_call laws call answer before behind one tells slots trace memory calls led =
-      let start = cleared fixed slots trace in
-      let taken = tells (after fixed start calls) (record { slots = slots; trace = trace; calls = calls; sized = led.sized; is = refl }) led.shows in
-      let sized = sized_push calls call led.sized one in (
-        taken.0,
-        record {
-          answered = refl;
-          led = record {
-            sized = sized;
-            shows = subst (Shows behind) (sym (after_push fixed calls start call)) taken.1;
-            lent = taken.2 ∙ ap (λ (m : Memory). all_after stored m (turn fixed (after fixed start calls) call).events) led.lent ∙ sym (run_push stored fixed slots trace calls call memory);
-          };
-          law = law_of_runs fixed laws slots trace (calls ++ call ∷ []) sized;
-        },
-      )
-
-  pub obeys : KindLaws fixed.kind → (call : Option Call) (answer : AnswerRecord) (before behind : Seen Memory) → SizedIn call → Tells fixed stored call answer before behind → Obeys fixed stored call answer before behind
-  obeys laws None answer before behind one tells = tells
-  obeys laws (Some call) answer before behind one tells = obeys_call laws call answer before behind one tells
+pub obeys : {Memory : Type 0} (fixed : Fixed) (stored : Memory → Event → Memory) → KindLaws fixed.kind → (call : Option Call) (answer : AnswerRecord) (before behind : Seen Memory) → SizedIn call
+    → Tells fixed stored call answer before behind → Obeys fixed stored call answer before behind
+obeys fixed stored laws None answer before behind one tells = tells
+obeys fixed stored laws (Some call) answer before behind one tells = λ slots trace calls led.
+    let taken = tells (after fixed (cleared fixed slots trace) calls) (record { slots = slots; trace = trace; calls = calls; sized = led.sized; is = refl }) led.shows in
+    (taken.0, led_on fixed stored laws slots trace calls call before behind one led taken.1 taken.2)

@@ -19,7 +19,7 @@ use Rattle.job.specs.declared.named.Named.{Named}
 use Rattle.job.specs.declared.job.Job.{Job}
 use Rattle.turns.specs.Shown.{Seen, seen, shown, Shows, Reached, fixed_by, ticket_of}
 use Rattle.lent_board.specs.Past.{past, answer_to}
-use Rattle.lent_board.specs.Led.{Led, LedOn}
+use Rattle.lent_board.specs.Led.{LedBy, Led, LedOn}
 use Rattle.c_interface.specs.declared.forms.CallRecord.{CallRecord}
 use Rattle.c_interface.specs.declared.forms.AnswerRecord.{AnswerRecord}
 
@@ -67,12 +67,12 @@ Tells fixed stored (Some call) answer before behind =
     → (answer ≡ told_by (turn fixed state call).answer) × Shows behind (turn fixed state call).next × (behind.memory ≡ all_after stored before.memory (turn fixed state call).events)
 
 -- And for every list of calls that led to the board since it was opened, whatever it was opened on: the record tells the machine's answer,
--- the board is led by the longer list, with all its memory, and the law holds of that list.
+-- the longer list leads to the board that is left, with all its memory, and the law holds of that list.
 abbrev pub Obeys : {Memory : Type 0} → Fixed → (Memory → Event → Memory) → Option Call → AnswerRecord → Seen Memory → Seen Memory → Type 0
 Obeys fixed stored None answer before behind = Strange answer before behind
-Obeys {Memory} fixed stored (Some call) answer before behind =
-    (slots : List Slot) (trace : ℕ) (memory : Memory) (calls : List Call) → Led stored memory (past fixed slots trace calls) before
-    → (answer ≡ told_by (answer_to (past fixed slots trace calls) call)) × LedOn stored memory (past fixed slots trace calls) call (answer_to (past fixed slots trace calls) call) behind
+Obeys fixed stored (Some call) answer before behind =
+    (slots : List Slot) (trace : ℕ) (calls : List Call) → LedBy (past fixed slots trace calls) before
+    → (answer ≡ told_by (answer_to (past fixed slots trace calls) call)) × LedOn stored (past fixed slots trace calls) call (answer_to (past fixed slots trace calls) call) before behind
 
 -- A board that has just been opened, under any number: each slot was erased once, and no call was made yet. It is not unfolded by itself,
 -- so that a proof finds it again as it stands.

@@ -1,13 +1,12 @@
 // The open add of a board, if one is open: which writes it wants, and how many of them are made.
-ghost use Rattle.std.specs.Prelude.{◌≡◌, ◌+◌, ◌-◌, ◌<◌, if◌then◌else◌, Err};
-ghost use Rattle.rules.specs.declared.refusal.Refusal.TheVariants.{Foreign};
-ghost use Rattle.job.specs.Jobs.{phase_of, naming, allowed, moved, next_slot, slot_before, slot_last, half_done, in_force};
+ghost use Rattle.std.specs.Prelude.{◌≡◌, ◌+◌, ◌-◌, ◌<◌, Ok};
+ghost use Rattle.job.specs.Jobs.{phase_of, naming, when_named, allowed, moved, next_slot, slot_before, slot_last, half_done, in_force};
 
 use crate::named::Named;
 use placing::Chain;
 use rules::{Refusal, Rule};
 
-#[derive(Clone, Copy)]
+#[derive(Clone, Copy, PartialEq, Eq, Debug)]
 pub enum Phase {
     // no ticket is open
     Idle,
@@ -18,7 +17,7 @@ pub enum Phase {
 }
 
 // What is asked of a board, as far as its open add decides on it.
-#[derive(Clone, Copy)]
+#[derive(Clone, Copy, PartialEq, Eq, Debug)]
 pub enum Request {
     // an add, a drop or a change
     Alter,
@@ -27,7 +26,7 @@ pub enum Request {
     Close(Named),
 }
 
-#[derive(Clone, Copy)]
+#[derive(Clone, Copy, PartialEq, Eq, Debug)]
 pub enum JobEvent {
     // an add of this rule has opened a ticket, and its chain is found
     Opened(Rule),
@@ -37,6 +36,7 @@ pub enum JobEvent {
     Closed,
 }
 
+// Kept: the C interface has the job in the caller's memory, so `busy` is a flag there and no Option (c/exchange.h).
 // Nothing but `busy` counts while no add is open. The chain has its places here, so that no add has to find memory.
 #[derive(Clone, Copy)]
 #[repr(C)]
@@ -47,6 +47,7 @@ pub struct Job {
     pub made: u16,
 }
 
+// Told of the length, below which it stays, so that it fits.
 fn one_more(made: u16, length: u16) -> u16
     requires { made < length }
     ensures { result ≡ made + 1 }
@@ -78,7 +79,12 @@ impl Job {
     fn is_named(&self, board: u16, named: Named) -> bool
         ensures { result ≡ naming board named self.now }
     {
-        named.board == board && named.rule == self.rule.number && named.length == self.chain.length
+        let open = Named {
+            board,
+            rule: self.rule.number,
+            length: self.chain.length,
+        };
+        named == open
     }
 
     // What the phase refuses. A foreign ticket is refused before one that has run out.
@@ -87,34 +93,24 @@ impl Job {
     {
         match (self.phase(), request) {
             (Phase::Idle, Request::Alter) => Ok(()),
-            (Phase::Idle, Request::Step(_)) => Err(Refusal::Foreign),
-            (Phase::Idle, Request::Close(_)) => Err(Refusal::Foreign),
-            (Phase::Shifting, Request::Alter) => Err(Refusal::Busy),
-            (Phase::Shifting, Request::Step(named)) => self.when_named(board, named, Ok(())),
-            (Phase::Shifting, Request::Close(named)) => self.when_named(board, named, Ok(())),
-            (Phase::Written, Request::Alter) => Err(Refusal::Busy),
-            (Phase::Written, Request::Step(named)) => self.when_named(
-                board,
-                named,
-                Err(Refusal::RunOut),
-            ),
-            (Phase::Written, Request::Close(named)) => self.when_named(board, named, Ok(())),
+            (Phase::Idle, Request::Step(_) | Request::Close(_)) => Err(Refusal::Foreign),
+            (Phase::Shifting | Phase::Written, Request::Alter) => Err(Refusal::Busy),
+            (Phase::Shifting, Request::Step(named)) => self.when_named(board, named),
+            (Phase::Shifting, Request::Close(named)) => self.when_named(board, named),
+            (Phase::Written, Request::Step(named)) => {
+                self.when_named(board, named)?;
+                Err(Refusal::RunOut)
+            },
+            (Phase::Written, Request::Close(named)) => self.when_named(board, named),
         }
     }
 
-    fn when_named(
-        &self,
-        board: u16,
-        named: Named,
-        answer: Result<(), Refusal>,
-    ) -> Result<(), Refusal>
-        ensures { result ≡ (if naming board named self.now then answer else Err Foreign) }
+    fn when_named(&self, board: u16, named: Named) -> Result<(), Refusal>
+        ensures { result ≡ when_named board named self.now (Ok tt) }
     {
-        if self.is_named(board, named) {
-            answer
-        } else {
-            Err(Refusal::Foreign)
-        }
+        self.is_named(board, named)
+            .then_some(())
+            .ok_or(Refusal::Foreign)
     }
 
     pub fn happens(&mut self, event: JobEvent)
@@ -130,13 +126,11 @@ impl Job {
                 self.made,
                 self.chain.length,
             ),
-            (Phase::Shifting, JobEvent::Closed) => self.busy = false,
-            (Phase::Written, JobEvent::Closed) => self.busy = false,
-            (Phase::Idle, JobEvent::Wrote) => {},
-            (Phase::Idle, JobEvent::Closed) => {},
-            (Phase::Shifting, JobEvent::Opened(_)) => {},
-            (Phase::Written, JobEvent::Opened(_)) => {},
-            (Phase::Written, JobEvent::Wrote) => {},
+            (Phase::Shifting | Phase::Written, JobEvent::Closed) => self.busy = false,
+            // what does not fit its phase changes nothing
+            (Phase::Idle, JobEvent::Wrote | JobEvent::Closed)
+            | (Phase::Shifting, JobEvent::Opened(_))
+            | (Phase::Written, JobEvent::Opened(_) | JobEvent::Wrote) => {},
         }
     }
 
@@ -144,35 +138,21 @@ impl Job {
     pub fn left(&self) -> u16
         ensures { result ≡ self.now.chain.length - self.now.made }
     {
-        if self.made < self.chain.length {
-            self.chain.length - self.made
-        } else {
-            0
-        }
+        self.chain.length.saturating_sub(self.made)
     }
 
     // The slot that the next write goes to: the last of those left.
     pub fn next_slot(&self) -> u16
         ensures { result ≡ next_slot self.now }
     {
-        let left = self.left();
-        if left > 0 {
-            self.chain.slot(left - 1)
-        } else {
-            self.chain.slot(0)
-        }
+        self.chain.slot(self.left().saturating_sub(1))
     }
 
     // The chain's slot before that one.
     pub fn slot_before(&self) -> u16
         ensures { result ≡ slot_before self.now }
     {
-        let left = self.left();
-        if left > 1 {
-            self.chain.slot(left - 2)
-        } else {
-            self.chain.slot(0)
-        }
+        self.chain.slot(self.left().saturating_sub(2))
     }
 
     // The slot last written, if one was.
@@ -192,6 +172,6 @@ impl Job {
     pub fn in_force(&self) -> u16
         ensures { result ≡ in_force self.now }
     {
-        if self.left() > 0 { 0 } else { 1 }
+        u16::from(self.left() == 0)
     }
 }

@@ -1,2 +1,2 @@
-mod Lawed
+pub mod Lawed
 mod Serves

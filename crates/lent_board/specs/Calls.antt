@@ -1,10 +1,11 @@
 -- Calls and answers with real tickets, as the machine has them: a ticket is what it names. Assumes nothing.
-use Rattle.std.specs.Prelude.{Some, None, Option}
+use Rattle.std.specs.Prelude.{ℕ, Some, None, Ok, Err, Option, Result}
 use Rattle.shifting.specs.Machine.{Ticket, Call, Answer, add, step, complete, withdraw, drop_rule, change_action, look_up, opened, counted, done, found, refused}
 use Rattle.lent_board.specs.declared.calls.Call.{Call as RealCall}
 use Rattle.lent_board.specs.declared.calls.Call.TheVariants.{Add, Step, Complete, Withdraw, DropRule, ChangeAction, LookUp}
 use Rattle.lent_board.specs.declared.calls.Answer.{Answer as RealAnswer}
 use Rattle.lent_board.specs.declared.calls.Answer.TheVariants.{Opened, Stepped, Closed, Done, Found, Refused, HandedBack}
+use Rattle.lent_board.specs.declared.board.Returned.{Returned as RealReturned}
 use Rattle.turns.specs.Shown.{ticket_of}
 
 abbrev pub call_of : RealCall → Call
@@ -36,6 +37,11 @@ returned Done = None
 returned (Found told) = None
 returned (Refused refusal) = None
 returned (HandedBack refusal ticket) = Some (ticket_of ticket.named)
+
+-- the ticket that a complete or a withdraw refuses
+abbrev pub refused_ticket : Result ℕ RealReturned → Option Ticket
+refused_ticket (Ok count) = None
+refused_ticket (Err back) = Some (ticket_of back.ticket.named)
 
 abbrev pub on_refusal : Ticket → Answer → Option Ticket
 on_refusal ticket (opened other) = None

@@ -15,26 +15,30 @@ use Rattle.lent_board.specs.declared.board.Board.{Board}
 use Rattle.lent_board.specs.declared.board.Returned.{Returned}
 use Rattle.lent_board.specs.Past.{Past, past, past_of, one_more, state_of, answer_to, events_in}
 
--- a board that this past led to, over a device whose memory was this before it was cleared
-pub record Led {Memory : Type 0} (stored : Memory → Event → Memory) (memory : Memory) (before : Past) (board : Seen Memory) : Type 0 where
-  pub sized : AllByRecursion Sized before.calls
-  pub shows : Shows board (state_of before)
-  pub lent : board.memory ≡ all_after stored memory (events_in before)
-
 abbrev pub LawOfPast : Past → Type 0
 LawOfPast before = LawOfRun before.fixed before.slots before.trace before.calls
 
--- one more call: its answer is the machine's, the board is led by the longer past, and the law holds of that
-pub record LedOn {Memory : Type 0} (stored : Memory → Event → Memory) (memory : Memory) (before : Past) (call : Call) (answer : Answer) (board : Seen Memory) : Type 0 where
+-- a board that this past led to
+pub record LedBy {Memory : Type 0} (before : Past) (board : Seen Memory) : Type 0 where
+  pub sized : AllByRecursion Sized before.calls
+  pub shows : Shows board (state_of before)
+
+-- the same over a device whose memory was this before it was cleared: all writes and erases since then are in it
+pub record Led {Memory : Type 0} (stored : Memory → Event → Memory) (memory : Memory) (before : Past) (board : Seen Memory) : Type 0 where
+  pub by : LedBy before board
+  pub lent : board.memory ≡ all_after stored memory (events_in before)
+
+-- one more call: its answer is the machine's, the longer past led to the board that it leaves, with all its memory, and the law holds of that past
+pub record LedOn {Memory : Type 0} (stored : Memory → Event → Memory) (before : Past) (call : Call) (answer : Answer) (board behind : Seen Memory) : Type 0 where
   pub answered : answer ≡ answer_to before call
-  pub led : Led stored memory (one_more before call) board
+  pub led : LedBy (one_more before call) behind
+  pub lent : (memory : Memory) → Led stored memory before board → Led stored memory (one_more before call) behind
   pub law : LawOfPast (one_more before call)
 
 -- for every list of calls that led to the board, from whatever device was cleared
 abbrev pub Lawfully : {Memory : Type 0} → Fixed → (Memory → Event → Memory) → Call → Answer → Seen Memory → Seen Memory → Type 0
-Lawfully {Memory} fixed stored call answer before behind =
-    (slots : List Slot) (trace : ℕ) (memory : Memory) (calls : List Call)
-    → Led stored memory (past fixed slots trace calls) before → LedOn stored memory (past fixed slots trace calls) call answer behind
+Lawfully fixed stored call answer before behind =
+    (slots : List Slot) (trace : ℕ) (calls : List Call) → LedBy (past fixed slots trace calls) before → LedOn stored (past fixed slots trace calls) call answer before behind
 
 -- what can be seen of a board
 abbrev pub face : {D K : Type 0} (g : Ghosts D K) → Board D → Seen g.Lent

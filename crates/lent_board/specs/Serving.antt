@@ -36,6 +36,19 @@ abbrev pub Fewer : ℕ → ℕ → Option RealCall → Type 0
 Fewer old new None = Unit {0}
 Fewer old new (Some call) = new < old
 
+-- what a caller reads its calls off, and how it is found in the caller
+pub record Reads (C : Type 0) : Type 1 where
+  pub Script : Type 0
+  pub of : C → Script
+
+-- off this of the caller
+abbrev pub reads_off : {C Script : Type 0} → (C → Script) → Reads C
+reads_off {C} {Script} of = record { Script = Script; of = of }
+
+-- off nothing
+abbrev pub reads_nothing : {C : Type 0} → Reads C
+reads_nothing = reads_off (λ caller. tt {0})
+
 -- A whole run over a device: the calls that were made, of which the caller knows; the device's slots and trace are the machine's after them;
 -- the memory lent to the device is what the machine's writes and erases made of it; and the law holds of them.
 pub record Served {C D K : Type 0} (ended : Between C) (kind : KindMeaning) (g : Ghosts D K) (number : ℕ) (before behind : D) (caller : C) : Type 0 where

@@ -25,6 +25,20 @@ pub struct Returned {
     pub ticket: Ticket,
 }
 
+// A ticket that was not refused is given back.
+fn settled(counted: Result<u16, Refusal>, ticket: Ticket) -> Result<u16, Returned>
+    ensures answer { spent result ≡ counting counted }
+    ensures back { HandedBack ticket result }
+{
+    match counted {
+        Ok(count) => {
+            ticket.spend();
+            Ok(count)
+        },
+        Err(refusal) => Err(Returned { refusal, ticket }),
+    }
+}
+
 impl<'a, D: SlotDevice> Board<'a, D> {
     pub fn open(device: &'a mut D, number: u16) -> Board<'a, D>
         ensures law { Opened D.Kind.Kind.meaning D.SlotDevice number device.old result }
@@ -45,10 +59,8 @@ impl<'a, D: SlotDevice> Board<'a, D> {
         ensures law { Obeys D.Kind.Kind.meaning D.SlotDevice (add new) (ticketed result) self.old self.new }
         ensures same { Same D.SlotDevice self.old self.new }
     {
-        match open_add(self.device, self.number, &mut self.job, new) {
-            Ok(named) => Ok(Ticket::of(named)),
-            Err(refusal) => Err(refusal),
-        }
+        let named = open_add(self.device, self.number, &mut self.job, new)?;
+        Ok(Ticket::of(named))
     }
 
     // Makes one write; answers the writes left.
@@ -65,13 +77,8 @@ impl<'a, D: SlotDevice> Board<'a, D> {
         ensures same { Same D.SlotDevice self.old self.new }
         ensures back { HandedBack ticket result }
     {
-        match complete_add(self.device, self.number, &mut self.job, ticket.named()) {
-            Ok(count) => {
-                ticket.spend();
-                Ok(count)
-            },
-            Err(refusal) => Err(Returned { refusal, ticket }),
-        }
+        let counted = complete_add(self.device, self.number, &mut self.job, ticket.named());
+        settled(counted, ticket)
     }
 
     // Takes the ticket back; answers 1 when the new rule is in force, otherwise 0.
@@ -80,13 +87,8 @@ impl<'a, D: SlotDevice> Board<'a, D> {
         ensures same { Same D.SlotDevice self.old self.new }
         ensures back { HandedBack ticket result }
     {
-        match withdraw_add(self.device, self.number, &mut self.job, ticket.named()) {
-            Ok(count) => {
-                ticket.spend();
-                Ok(count)
-            },
-            Err(refusal) => Err(Returned { refusal, ticket }),
-        }
+        let counted = withdraw_add(self.device, self.number, &mut self.job, ticket.named());
+        settled(counted, ticket)
     }
 
     // Erases the rule's slot.

@@ -1,6 +1,6 @@
 // Whoever issues calls to a board.
 ghost use Rattle.std.specs.Prelude.{◌≡◌, ℕ, ◌≤◌};
-ghost use Rattle.lent_board.specs.Serving.{Past, MachineCall, Between, Waiting, Asks, Answers, Fewer, one_more};
+ghost use Rattle.lent_board.specs.Serving.{Past, MachineCall, Between, Waiting, Asks, Answers, Fewer, Reads, reads_nothing, one_more};
 
 use crate::calls::{Answer, Call};
 
@@ -19,19 +19,17 @@ pub trait Caller {
     ghost left: { Self → ℕ };
 
     // what it reads its calls off, which stays the same
-    ghost Script: { Type 0 };
-
-    ghost reads: { Self → Script };
+    ghost reads: { Reads Self } = { reads_nothing };
 
     fn next(&mut self) -> Option<Call>
         requires { (before : Past) × holds self.old before }
         ensures asks { (before : Past) → holds self.old before → Asks waits ended self.new before result }
         ensures fewer { Fewer (left self.old) (left self.new) result }
-        ensures same { reads self.new ≡ reads self.old };
+        ensures same { reads.of self.new ≡ reads.of self.old };
 
     fn hear(&mut self, answer: Answer)
         requires { (before : Past) × (call : MachineCall) × waits self.old before call × Answers before call answer }
         ensures holds { (before : Past) (call : MachineCall) → waits self.old before call → Answers before call answer → holds self.new (one_more before call) }
         ensures fewer { left self.new ≤ left self.old }
-        ensures same { reads self.new ≡ reads self.old };
+        ensures same { reads.of self.new ≡ reads.of self.old };
 }

@@ -1,10 +1,11 @@
 // Calls and answers as values, with real tickets inside.
-ghost use Rattle.std.specs.Prelude.{◌≡◌, Some, None};
-ghost use Rattle.turns.specs.Shown.{opening, counting, doing, finding, ticket_of};
-ghost use Rattle.lent_board.specs.Calls.{answer_of, returned, on_refusal};
+ghost use Rattle.std.specs.Prelude.{◌≡◌, None};
+ghost use Rattle.turns.specs.Shown.{doing, finding};
+ghost use Rattle.lent_board.specs.Led.{ticketed, spent};
+ghost use Rattle.lent_board.specs.Calls.{answer_of, returned, refused_ticket};
 
+use crate::board::Returned;
 use crate::ticket::Ticket;
-use job::Named;
 use rules::{Refusal, Rule};
 
 pub enum Call {
@@ -30,55 +31,37 @@ pub enum Answer {
     HandedBack(Refusal, Ticket),
 }
 
-pub(crate) fn opened(res: Result<Named, Refusal>) -> Answer
-    ensures answer { answer_of result ≡ opening res }
-    ensures back { returned result ≡ None }
-{
-    match res {
-        Ok(named) => Answer::Opened(Ticket::of(named)),
-        Err(refusal) => Answer::Refused(refusal),
+impl From<Result<Ticket, Refusal>> for Answer {
+    ghost from_gives = { λ res answer. (answer_of answer ≡ ticketed res) × (returned answer ≡ None) };
+
+    fn from(res: Result<Ticket, Refusal>) -> Answer {
+        res.map_or_else(Answer::Refused, Answer::Opened)
     }
 }
 
-pub(crate) fn stepped(res: Result<u16, Refusal>, ticket: Ticket) -> Answer
-    ensures answer { answer_of result ≡ counting res }
-    ensures back { returned result ≡ Some (ticket_of ticket.named) }
-{
-    match res {
-        Ok(left) => Answer::Stepped(left, ticket),
-        Err(refusal) => Answer::HandedBack(refusal, ticket),
+impl From<Result<u16, Returned>> for Answer {
+    ghost from_gives = { λ res answer. (answer_of answer ≡ spent res) × (returned answer ≡ refused_ticket res) };
+
+    fn from(res: Result<u16, Returned>) -> Answer {
+        res.map_or_else(
+            |Returned { refusal, ticket }| Answer::HandedBack(refusal, ticket),
+            Answer::Closed,
+        )
     }
 }
 
-pub(crate) fn closed(res: Result<u16, Refusal>, ticket: Ticket) -> Answer
-    ensures answer { answer_of result ≡ counting res }
-    ensures back { returned result ≡ on_refusal (ticket_of ticket.named) (answer_of result) }
-{
-    match res {
-        Ok(count) => {
-            ticket.spend();
-            Answer::Closed(count)
-        },
-        Err(refusal) => Answer::HandedBack(refusal, ticket),
+impl From<Result<(), Refusal>> for Answer {
+    ghost from_gives = { λ res answer. (answer_of answer ≡ doing res) × (returned answer ≡ None) };
+
+    fn from(res: Result<(), Refusal>) -> Answer {
+        res.map_or_else(Answer::Refused, |()| Answer::Done)
     }
 }
 
-pub(crate) fn done(res: Result<(), Refusal>) -> Answer
-    ensures answer { answer_of result ≡ doing res }
-    ensures back { returned result ≡ None }
-{
-    match res {
-        Ok(()) => Answer::Done,
-        Err(refusal) => Answer::Refused(refusal),
-    }
-}
+impl From<Result<Option<(u16, u32)>, Refusal>> for Answer {
+    ghost from_gives = { λ res answer. (answer_of answer ≡ finding res) × (returned answer ≡ None) };
 
-pub(crate) fn found(res: Result<Option<(u16, u32)>, Refusal>) -> Answer
-    ensures answer { answer_of result ≡ finding res }
-    ensures back { returned result ≡ None }
-{
-    match res {
-        Ok(told) => Answer::Found(told),
-        Err(refusal) => Answer::Refused(refusal),
+    fn from(res: Result<Option<(u16, u32)>, Refusal>) -> Answer {
+        res.map_or_else(Answer::Refused, Answer::Found)
     }
 }

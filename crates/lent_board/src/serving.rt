@@ -1,42 +1,31 @@
 // Serving whoever issues calls, from a cleared board to the caller's end.
 ghost use Rattle.std.specs.Prelude.{◌≡◌, []};
-ghost use Rattle.shifting.specs.Law.{Sized};
-ghost use Rattle.turns.specs.Shown.{Acts};
+ghost use Rattle.lent_board.specs.Led.{Obeys, Same};
 ghost use Rattle.lent_board.specs.Calls.{call_of, answer_of, returned, goes_back};
 ghost use Rattle.lent_board.specs.Serving.{past_of, Served};
 
+use crate::board::Board;
 use crate::caller::Caller;
-use crate::calls::{Answer, Call, closed, done, found, opened, stepped};
-use job::Job;
+use crate::calls::{Answer, Call};
 use rules::SlotDevice;
-use turns::{
-    change_rule, clear, complete_add, drop_rule, look_up_rule, open_add, step_add, withdraw_add,
-};
 
 // One call, whichever it is.
-fn take_call<D: SlotDevice>(device: &mut D, number: u16, job: &mut Job, call: Call) -> Answer
-    ensures takes { Acts D.Kind.Kind.meaning D.SlotDevice number (call_of call) (answer_of result) device.old job.old device.new job.new }
+fn take_call<D: SlotDevice>(board: &mut Board<'_, D>, call: Call) -> Answer
+    ensures law { Obeys D.Kind.Kind.meaning D.SlotDevice (call_of call) (answer_of result) board.old board.new }
     ensures back { returned result ≡ goes_back (call_of call) (answer_of result) }
-    ensures sized { Sized (call_of call) }
-    ensures same { D.SlotDevice.lenders device.new ≡ D.SlotDevice.lenders device.old }
+    ensures same { Same D.SlotDevice board.old board.new }
 {
     match call {
-        Call::Add(new) => opened(open_add(device, number, job, new)),
-        Call::Step(ticket) => {
-            let named = ticket.named();
-            stepped(step_add(device, number, job, named), ticket)
+        Call::Add(new) => Answer::from(board.add(new)),
+        Call::Step(ticket) => match board.step(&ticket) {
+            Ok(left) => Answer::Stepped(left, ticket),
+            Err(refusal) => Answer::HandedBack(refusal, ticket),
         },
-        Call::Complete(ticket) => {
-            let named = ticket.named();
-            closed(complete_add(device, number, job, named), ticket)
-        },
-        Call::Withdraw(ticket) => {
-            let named = ticket.named();
-            closed(withdraw_add(device, number, job, named), ticket)
-        },
-        Call::DropRule(rule) => done(drop_rule(device, number, job, rule)),
-        Call::ChangeAction(rule, action) => done(change_rule(device, number, job, rule, action)),
-        Call::LookUp(subject) => found(look_up_rule(device, number, job, subject)),
+        Call::Complete(ticket) => Answer::from(board.complete(ticket)),
+        Call::Withdraw(ticket) => Answer::from(board.withdraw(ticket)),
+        Call::DropRule(rule) => Answer::from(board.drop(rule)),
+        Call::ChangeAction(rule, action) => Answer::from(board.change(rule, action)),
+        Call::LookUp(subject) => Answer::from(board.look_up(subject)),
     }
 }
 
@@ -46,12 +35,10 @@ pub fn serve<D: SlotDevice, C: Caller>(device: &mut D, number: u16, caller: &mut
     requires { C.Caller.holds caller.old (past_of D.Kind.Kind.meaning D.SlotDevice number device.old []) }
     ensures served { Served C.Caller.ended D.Kind.Kind.meaning D.SlotDevice number device.old device.new caller.new }
     ensures same { D.SlotDevice.lenders device.new ≡ D.SlotDevice.lenders device.old }
-    ensures script { C.Caller.reads caller.new ≡ C.Caller.reads caller.old }
+    ensures script { C.Caller.reads.of caller.new ≡ C.Caller.reads.of caller.old }
 {
-    clear(device);
-    let mut job = Job::NONE;
+    let mut board = Board::open(device, number);
     while let Some(call) = caller.next() {
-        let answer = take_call(device, number, &mut job, call);
-        caller.hear(answer);
+        caller.hear(take_call(&mut board, call));
     }
 }

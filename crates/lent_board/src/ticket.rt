@@ -6,7 +6,8 @@ use job::Named;
 // Only a board makes one, and it cannot be copied.
 pub struct Ticket {
     named: Named,
-    // set when a board takes the ticket back, and told by no contract
+    // Kept: a rule of this project: the prover refuses a ticket that falls, by a fact of that ticket; a ghost field says the same of every ticket.
+    // Set when a board takes the ticket back, and told by no contract.
     given_back: bool,
 }
 

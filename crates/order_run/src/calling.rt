@@ -1,10 +1,10 @@
 // The walk of an order file's caller: from order to order, and from call to answer.
 ghost use Rattle.std.specs.Prelude.{◌≡◌, suc, ◌<◌, ◌≤◌, false, ◌++◌, string_bytes};
 ghost use Rattle.orders.specs.Orders.{entry_of};
-ghost use Rattle.lent_board.specs.Serving.{Past, Asks, Fewer};
+ghost use Rattle.lent_board.specs.Serving.{Past, Asks, Fewer, reads_off};
 ghost use Rattle.order_run.specs.declared.caller.Stage.TheVariants.{Reading};
 ghost use Rattle.order_run.specs.Lines.{line, number_told, value_told};
-ghost use Rattle.order_run.specs.Calling.{Unless, Holds, HoldsWith, Waits, Ends, Bytes, open_ends, calls_left, turns_left, Falls, is_reading};
+ghost use Rattle.order_run.specs.Calling.{Unless, Holds, HoldsWith, Waits, Ends, open_ends, calls_left, turns_left, Falls, is_reading};
 
 use crate::caller::{Head, OrderCaller, Stage};
 use crate::keeping::{call_for, keep};
@@ -84,9 +84,7 @@ impl<'a> Caller for OrderCaller<'a> {
 
     ghost left = { calls_left };
 
-    ghost Script = { Bytes };
-
-    ghost reads = { λ caller. caller.reader.input.now };
+    ghost reads = { reads_off (λ caller. caller.reader.input.now) };
 
     fn next(&mut self) -> Option<Call> {
         while self.stage.is_reading() {

@@ -1,6 +1,0 @@
-mod Turned
-mod Adds
-mod Drops
-mod Writes
-mod Lawed
-mod Serves

@@ -1,5 +1,0 @@
-pub mod Jobs
-pub mod Shown
-pub mod Led
-pub mod Calls
-pub mod Serving

@@ -19,7 +19,7 @@ use Rattle.job.specs.declared.named.Named.{Named}
 use Rattle.job.specs.declared.job.Job.{Job}
 use Rattle.job.specs.declared.job.Request.TheVariants.{Alter, Step, Close}
 use Rattle.job.specs.Jobs.{phase_of, naming, allowed}
-use Rattle.turns.specs.Shown.{Seen, Shows, ShowsOpen, ShowsJob, Reached, Takes, ticket_of, CarriesOut, as_events}
+use Rattle.turns.specs.Shown.{Seen, Shows, ShowsOpen, ShowsJob, Reached, Takes, ticket_of, CarriesOutAll, as_events}
 
 abbrev Allowed : Type 0
 Allowed = Result (Unit {0}) Refusal
@@ -33,7 +33,7 @@ refused_exit {Memory} {X} fixed stored call answering before behind r refusal ex
 
 -- a device that makes one event, or none, carries it out
 pub carries_out : {D K : Type 0} (g : Ghosts D K) (device device' : D) (event : Result Event Refusal) → g.slots device' ≡ left_after carried_out (g.slots device) event → g.trace device' ≡ left_after g.traced (g.trace device) event
-    → g.memory device' ≡ left_after g.stored (g.memory device) event → g.lenders device' ≡ g.lenders device → CarriesOut g device (as_events event) device'
+    → g.memory device' ≡ left_after g.stored (g.memory device) event → g.lenders device' ≡ g.lenders device → CarriesOutAll g device (as_events event) device'
 carries_out g device device' (Ok event) slots trace memory same = record { slots = slots; trace = trace; memory = memory; same = same }
 carries_out g device device' (Err refusal) slots trace memory same = record { slots = slots; trace = trace; memory = memory; same = same }
 

@@ -128,7 +128,7 @@ erased_back slots job = cond (half_done job) (as_events (erasing (length slots) 
 
 -- what carrying out these events leaves of a device: slots, trace and memory as they make them, and the same loans
 module _ {D K : Type 0} (g : Ghosts D K) where
-  pub record CarriesOut (device : D) (events : List Event) (device' : D) : Type 0 where
+  pub record CarriesOutAll (device : D) (events : List Event) (device' : D) : Type 0 where
     pub slots : g.slots device' ≡ all_carried_out (g.slots device) events
     pub trace : g.trace device' ≡ all_traced g.traced (g.trace device) events
     pub memory : g.memory device' ≡ all_after g.stored (g.memory device) events

@@ -3,7 +3,7 @@ ghost use Rattle.std.specs.Prelude.{◌≡◌, OnErr};
 ghost use Rattle.shifting.specs.Machine.{step, complete, withdraw};
 ghost use Rattle.job.specs.declared.job.JobEvent.TheVariants.{Wrote};
 ghost use Rattle.job.specs.Jobs.{phase_of, moved};
-ghost use Rattle.turns.specs.Shown.{Acts, CarriesOut, counting, ticket_of, next_rule, next_event, as_events, erased_back};
+ghost use Rattle.turns.specs.Shown.{Acts, CarriesOutAll, counting, ticket_of, next_rule, next_event, as_events, erased_back};
 
 use crate::altering::held_at;
 use job::{Job, JobEvent, Named, Request};
@@ -21,7 +21,7 @@ fn rule_to_write<D: SlotDevice>(device: &D, job: &Job) -> Rule
 }
 
 fn write_next<D: SlotDevice>(device: &mut D, job: &mut Job)
-    ensures writes { CarriesOut D.SlotDevice device.old (as_events (next_event (D.SlotDevice.slots device.old) job.old)) device.new }
+    ensures writes { CarriesOutAll D.SlotDevice device.old (as_events (next_event (D.SlotDevice.slots device.old) job.old)) device.new }
     ensures job { job.new ≡ moved (phase_of job.old) Wrote job.old }
 {
     let slot = job.next_slot();
@@ -66,7 +66,7 @@ pub fn complete_add<D: SlotDevice>(
 }
 
 fn erase_half_way<D: SlotDevice>(device: &mut D, job: &Job)
-    ensures { CarriesOut D.SlotDevice device.old (erased_back (D.SlotDevice.slots device.old) job.now) device.new }
+    ensures { CarriesOutAll D.SlotDevice device.old (erased_back (D.SlotDevice.slots device.old) job.now) device.new }
 {
     if job.is_half_way() {
         let _ = device.erase(job.slot_written());

@@ -10,7 +10,7 @@ use rules::{Kind, Refusal, Rule, SlotDevice};
 fn is_mangled<K: Kind>(new: Rule) -> bool
     ensures { result ≡ (new.number == 0 || not (K.Kind.meaning.well_formed new.word_a new.word_b)) }
 {
-    new.number == 0 || !K::well_formed(new.word_a, new.word_b)
+    new.number == 0 || !K::well_formed(new.words())
 }
 
 // Whether the rule itself may be added: while no add is open the numbers in the slots are those of the rules in force.

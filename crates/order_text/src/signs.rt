@@ -48,6 +48,7 @@ fn sign(code: u64) -> char
     }
 }
 
+// Kept: a rule of this project: a must-fail edit keeps its mistake, and `{word:016X}` has no letter to get wrong.
 fn digit(code: u64) -> char
     requires { code < 16 }
     ensures value { result ≡ digit code }

@@ -33,6 +33,7 @@ impl<'a> ChipImage<'a> {
     }
 
     // Where the header of a slot lies.
+    // Kept: a type for a slot within would be no plainer: its bound is the count of these words, which another value holds.
     #[tactic(auto, using(crate::proofs::Chips::length_chip))]
     fn place(&self, slot: u16) -> usize
         requires { slot < chip_count self.now.words.now }
@@ -101,12 +102,11 @@ impl<'a> SlotDevice for ChipImage<'a> {
 
     ghost lenders = { λ chip. chip.words.ghost_name };
 
-    ghost lawful = { λ chip. counted_records_lawful (λ slot. record_at chip.words.now (address (chip_count chip.words.now) slot)) (chip_count chip.words.now) (omega arith) };
-
     fn count(&self) -> u16 {
         self.slot_count()
     }
 
+    // Kept: a rule of this project: no public function asks anything of its caller, and a trait under this device and the record bank, with `at` and `carry_out`, would be public.
     fn read(&self, slot: u16) -> Result<Option<Rule>, Refusal> {
         if slot >= self.slot_count() {
             return Err(Refusal::OffTheTable);
@@ -129,4 +129,6 @@ impl<'a> SlotDevice for ChipImage<'a> {
     fn first_match(&self, subject: u64) -> Option<u16> {
         (0..self.slot_count()).find(|slot| slot_matches::<Packet>(self.at(*slot), subject))
     }
+
+    ghost lawful = { λ chip. counted_records_lawful (λ slot. record_at chip.words.now (address (chip_count chip.words.now) slot)) (chip_count chip.words.now) (omega arith) };
 }

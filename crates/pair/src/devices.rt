@@ -79,8 +79,6 @@ impl<D: SlotDevice, E: SlotDevice<Kind = D::Kind>> SlotDevice for Pair<D, E> {
 
     ghost lenders = { λ pair. (D.SlotDevice.lenders pair.first, E.SlotDevice.lenders pair.second) };
 
-    ghost lawful = { λ pair. joined_lawful _ _ (D.SlotDevice.lawful pair.first) (E.SlotDevice.lawful pair.second) };
-
     fn count(&self) -> u16 {
         let first = self.first.count();
         first.checked_add(self.second.count()).unwrap_or(first)
@@ -107,4 +105,6 @@ impl<D: SlotDevice, E: SlotDevice<Kind = D::Kind>> SlotDevice for Pair<D, E> {
         let first = self.first.first_match(subject);
         first.or_else(|| self.match_in_second(subject))
     }
+
+    ghost lawful = { λ pair. joined_lawful _ _ (D.SlotDevice.lawful pair.first) (E.SlotDevice.lawful pair.second) };
 }

@@ -75,12 +75,11 @@ impl<'a> SlotDevice for RecordBank<'a> {
 
     ghost lenders = { λ bank. bank.records.ghost_name };
 
-    ghost lawful = { λ bank. first_records_lawful most_slots bank.records.now (lit≤ tt) };
-
     fn count(&self) -> u16 {
         self.slot_count()
     }
 
+    // Kept: a rule of this project: no public function asks anything of its caller, and a trait under this device and the chip image, with `at` and `carry_out`, would be public.
     fn read(&self, slot: u16) -> Result<Option<Rule>, Refusal> {
         if slot >= self.slot_count() {
             return Err(Refusal::OffTheTable);
@@ -103,4 +102,6 @@ impl<'a> SlotDevice for RecordBank<'a> {
     fn first_match(&self, subject: u64) -> Option<u16> {
         (0..self.slot_count()).find(|slot| slot_matches::<Dial>(self.at(*slot), subject))
     }
+
+    ghost lawful = { λ bank. first_records_lawful most_slots bank.records.now (lit≤ tt) };
 }

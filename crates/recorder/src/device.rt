@@ -30,8 +30,6 @@ impl<D: SlotDevice> SlotDevice for Recorder<D> {
 
     ghost lenders = { λ recorder. D.SlotDevice.lenders recorder.device };
 
-    ghost lawful = { λ recorder. D.SlotDevice.lawful recorder.device };
-
     fn count(&self) -> u16 {
         self.device.count()
     }
@@ -55,4 +53,6 @@ impl<D: SlotDevice> SlotDevice for Recorder<D> {
     fn first_match(&self, subject: u64) -> Option<u16> {
         self.device.first_match(subject)
     }
+
+    ghost lawful = { λ recorder. D.SlotDevice.lawful recorder.device };
 }

@@ -38,9 +38,6 @@ pub trait SlotDevice {
 
     ghost lenders: { Self → Lenders };
 
-    // what each device must prove: a `law` is not proved yet where an impl has a lifetime
-    ghost lawful: { (device : Self) → SlotLaws (slots device) };
-
     fn count(&self) -> u16
         ensures answer { result ≡ length (slots self.now) };
 
@@ -64,4 +61,7 @@ pub trait SlotDevice {
     // the lowest slot whose rule matches
     fn first_match(&self, subject: u64) -> Option<u16>
         ensures answer { result ≡ first_match Self.Kind.Kind.meaning (slots self.now) subject };
+
+    // what each device proves of its slots
+    ghost lawful: { (device : Self) → SlotLaws (slots device) };
 }

@@ -24,8 +24,6 @@ impl<'a, D: SlotDevice> SlotDevice for &'a mut D {
 
     ghost lenders = { λ device. (device.ghost_name, D.SlotDevice.lenders device.now) };
 
-    ghost lawful = { λ device. D.SlotDevice.lawful device.now };
-
     fn count(&self) -> u16 {
         (**self).count()
     }
@@ -45,4 +43,6 @@ impl<'a, D: SlotDevice> SlotDevice for &'a mut D {
     fn first_match(&self, subject: u64) -> Option<u16> {
         (**self).first_match(subject)
     }
+
+    ghost lawful = { λ device. D.SlotDevice.lawful device.now };
 }

@@ -6,7 +6,6 @@ ghost use Rattle.record_bank.specs.Records.{bank_slots, record_changed};
 ghost use Rattle.order_run.specs.Running.{Ran};
 ghost use Rattle.dial_run.specs.Exchange.{dial_board, lines_on_six, printed};
 
-use kinds::Dial;
 use order_reader::LONGEST;
 use order_run::run_orders;
 use record_bank::RecordBank;

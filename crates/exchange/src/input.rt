@@ -1,5 +1,5 @@
 // The input of the program, which has a limit.
-ghost use Rattle.std.specs.Prelude.{◌≡◌, ◌≤◌, IfSome, IfOk, if◌then◌else◌, Some, None, vec_len, nat_lt};
+ghost use Rattle.std.specs.Prelude.{◌≡◌, ◌<◌, ◌≤◌, IfSome, IfOk, MatchOption, if◌then◌else◌, Some, None, length, vec_len, nat_lt};
 
 use order_reader::{LONGEST, read_input};
 use std::alloc::Global;
@@ -8,7 +8,8 @@ use std::io::Read;
 
 // All of the input, or none where it is longer than the limit.
 pub fn whole_input<R: Read + Drop>(heap: Global, source: R) -> io::Result<Option<Vec<u8>>>
-    ensures { IfOk result (λ input. IfSome input (λ bytes. vec_len bytes ≤ 32768)) }
+    ensures limit { IfOk result (λ input. IfSome input (λ bytes. vec_len bytes ≤ 32768)) }
+    ensures whole { IfOk result (λ input. IfSome (R.remaining source) (λ given. MatchOption input (32768 < length given) (λ bytes. bytes.items ≡ given))) }
 {
     Ok(within_limit(read_input(heap, source)?))
 }

@@ -1,10 +1,10 @@
 -- A test whose answers are known: the first slot that passes is the first of a scan. Assumes nothing.
-use Rattle.std.proofs.Common.{◌≡◌, ℕ, ◌-◌, ◌<◌, ◌≤◌, Bool, ltb, is_some, List, Some, None, Option, sym, arith}
+use Rattle.std.proofs.Common.{◌≡◌, ℕ, ◌-◌, ◌<◌, ◌≤◌, Bool, true, ltb, is_some, List, Some, None, Option, MatchOption, sym, arith}
 use Rattle.rules.specs.Slots.{place_within}
 use Rattle.shifting.specs.Chains.{scan}
 use Rattle.shifting.specs.Slots.{Slot, at}
 use Rattle.shifting.proofs.Scans.{scan_low, scan_hit, scan_first}
-use Rattle.placing.specs.Passing.{FirstPassing}
+use Rattle.placing.specs.Passing.{NonePasses, FirstPassing}
 
 module _ (Answers : Slot → Bool → Type 0) (test : Slot → Bool) (slots : List Slot) where
   abbrev tested : ℕ → Bool
@@ -17,6 +17,12 @@ module _ (Answers : Slot → Bool → Type 0) (test : Slot → Bool) (slots : Li
       let before = first.passes.before in
       let to = scan_first tested low (end - low) slot first.passes.after (sym (known _ _ first.passes.passes)) in
       grind (arith, scan_low, scan_hit, first.none_before, known)
+
+-- what `find` tells of the slots
+pub first_found : (Answers : Slot → Bool → Type 0) (slots : List Slot) (low end : ℕ) (found : Option ℕ)
+    → MatchOption found (NonePasses Answers slots low end) (λ slot. (low ≤ slot) × (slot < end) × Answers (at slots slot) true × NonePasses Answers slots low slot) → FirstPassing Answers slots low end found
+first_found Answers slots low end None none = record { passes = tt; none_before = none }
+first_found Answers slots low end (Some slot) first = record { passes = record { after = first.0; before = first.1; passes = first.2 }; none_before = first.3 }
 
 -- whether a place is found
 pub some_place : (count place : ℕ) → is_some (place_within count place) ≡ ltb place count

@@ -2,6 +2,7 @@
 ghost use Rattle.std.specs.Prelude.{◌≡◌, ◌+◌, ◌<◌, [], ◌∷◌, ◌++◌, length, take, slice_index};
 
 // Only the first `length` places are slots of the chain.
+// Kept: the C interface has a chain as 480 places and a length, and no call may find memory.
 #[derive(Clone, Copy)]
 #[repr(C)]
 pub struct Chain {

@@ -16,6 +16,7 @@ fn clash<K: Kind>(slot: Option<Rule>, other: Option<Rule>) -> bool
 }
 
 // The first later slot whose rule clashes with the one in this slot, or the last slot.
+// Kept: a rule of this project: the reach is a loop over later slots that yields its slot by `break`.
 pub(crate) fn reach_of<D: SlotDevice>(device: &D, slot: u16) -> u16
     ensures { result ≡ reach D.Kind.Kind.meaning (D.SlotDevice.slots device.now) slot }
 {

@@ -14,12 +14,7 @@ pub fn first_passing<D: SlotDevice, F: Fn(Option<Rule>) -> bool>(
     requires { F.IsAlwaysCallable passes }
     ensures { FirstPassing (F.post passes) (D.SlotDevice.slots device.now) low end result }
 {
-    for slot in low..end {
-        if passes(slot_at(device, slot)) {
-            return Some(slot);
-        }
-    }
-    None
+    (low..end).find(|slot| passes(slot_at(device, *slot)))
 }
 
 // One past the last slot before `end` that passes, or 0.

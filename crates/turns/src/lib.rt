@@ -1,4 +1,5 @@
 // The seven calls of a board, each as one turn of the machine over any slot device. Tickets are here by what they name.
+// Kept: a struct of device, number and job would be no plainer: it would hold two loans, and each contract would say that both stay the same.
 #![tactic(auto)]
 
 mod adding;

@@ -1,6 +1,6 @@
 -- Calls and answers as C has them: which call of the machine a call record names, how an answer record tells the machine's answer,
 -- and what a call does to the records or words that C lends. Assumes nothing.
-use Rattle.std.specs.Prelude.{◌≡◌, ℕ, cond, List, [], Some, None, Option, ◌==◌}
+use Rattle.std.specs.Prelude.{◌≡◌, ◌≢◌, ℕ, cond, List, [], Some, None, Option, ◌==◌}
 use Rattle.rules.specs.declared.rule.Rule.{Rule}
 use Rattle.rules.specs.declared.event.Event.{Event}
 use Rattle.rules.specs.declared.refusal.Refusal.TheVariants.{StrangeLetter}
@@ -65,6 +65,10 @@ Tells fixed stored None answer before behind = Strange answer before behind
 Tells fixed stored (Some call) answer before behind =
     (state : State) → Reached fixed state → Shows before state
     → (answer ≡ told_by (turn fixed state call).answer) × Shows behind (turn fixed state call).next × (behind.memory ≡ all_after stored before.memory (turn fixed state call).events)
+
+-- A refused call leaves the job as it was, also what means nothing while no add is open: it is the caller's memory.
+abbrev pub RefusedKeeps : AnswerRecord → Job → Job → Type 0
+RefusedKeeps answer before behind = answer.refusal ≢ 0 → behind ≡ before
 
 -- And for every list of calls that led to the board since it was opened, whatever it was opened on: the record tells the machine's answer,
 -- the longer list leads to the board that is left, with all its memory, and the law holds of that list.

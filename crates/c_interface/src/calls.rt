@@ -1,8 +1,7 @@
 // Opening a board and calling it, from C.
-ghost use Rattle.std.specs.Prelude.{◌≡◌, ◌≢◌};
 ghost use Rattle.record_bank.specs.Records.{record_changed};
 ghost use Rattle.chip_image.specs.Chip.{chip_changed};
-ghost use Rattle.c_interface.specs.Crossing.{call_of, dial_fixed, packet_fixed, dial_board, packet_board, Tells, Obeys, Opens};
+ghost use Rattle.c_interface.specs.Crossing.{call_of, dial_fixed, packet_fixed, dial_board, packet_board, Tells, Obeys, Opens, RefusedKeeps};
 
 use crate::forms::{AnswerRecord, CallRecord};
 use crate::taking::{call_board, open_board};
@@ -10,6 +9,8 @@ use chip_image::ChipImage;
 use job::Job;
 use record_bank::RecordBank;
 use rules::Rule;
+
+// Kept: the C interface has no generic function, so each device has its own open and call, over the generic ones of `taking`.
 
 #[unsafe(no_mangle)]
 pub extern "C" fn exchange_dial_open(records: &mut [Rule], job: &mut Job)
@@ -27,7 +28,7 @@ pub extern "C" fn exchange_dial_call(
     call: &CallRecord,
 ) -> AnswerRecord
     ensures tells { Tells (dial_fixed board) record_changed (call_of call.now) result (dial_board records.old job.old) (dial_board records.new job.new) }
-    ensures kept { result.refusal ≢ 0 → job.new ≡ job.old }
+    ensures kept { RefusedKeeps result job.old job.new }
     ensures law { Obeys (dial_fixed board) record_changed (call_of call.now) result (dial_board records.old job.old) (dial_board records.new job.new) }
 {
     let mut bank = RecordBank::over(records);
@@ -50,7 +51,7 @@ pub extern "C" fn exchange_packet_call(
     call: &CallRecord,
 ) -> AnswerRecord
     ensures tells { Tells (packet_fixed board) chip_changed (call_of call.now) result (packet_board words.old job.old) (packet_board words.new job.new) }
-    ensures kept { result.refusal ≢ 0 → job.new ≡ job.old }
+    ensures kept { RefusedKeeps result job.old job.new }
     ensures law { Obeys (packet_fixed board) chip_changed (call_of call.now) result (packet_board words.old job.old) (packet_board words.new job.new) }
 {
     let mut chip = ChipImage::over(words);

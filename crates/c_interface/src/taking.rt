@@ -1,6 +1,6 @@
 // Opening a board over any device, and one call on it by its record.
-ghost use Rattle.std.specs.Prelude.{◌≡◌, ◌≢◌};
-ghost use Rattle.c_interface.specs.Crossing.{TellsOf, ObeysOf, OpensOf};
+ghost use Rattle.std.specs.Prelude.{◌≡◌};
+ghost use Rattle.c_interface.specs.Crossing.{TellsOf, ObeysOf, OpensOf, RefusedKeeps};
 
 use crate::forms::{AnswerRecord, CallRecord, counted, done, found, opened, refused};
 use job::Job;
@@ -19,7 +19,7 @@ pub(crate) fn open_board<D: SlotDevice>(device: &mut D, job: &mut Job)
 
 fn take<D: SlotDevice>(device: &mut D, board: u16, job: &mut Job, call: CallRecord) -> AnswerRecord
     ensures tells { TellsOf D.Kind.Kind.meaning D.SlotDevice board call result device.old job.old device.new job.new }
-    ensures kept { result.refusal ≢ 0 → job.new ≡ job.old }
+    ensures kept { RefusedKeeps result job.old job.new }
     ensures same { D.SlotDevice.lenders device.new ≡ D.SlotDevice.lenders device.old }
 {
     match call.letter {
@@ -42,7 +42,7 @@ pub(crate) fn call_board<D: SlotDevice>(
     call: CallRecord,
 ) -> AnswerRecord
     ensures tells { TellsOf D.Kind.Kind.meaning D.SlotDevice board call result device.old job.old device.new job.new }
-    ensures kept { result.refusal ≢ 0 → job.new ≡ job.old }
+    ensures kept { RefusedKeeps result job.old job.new }
     ensures law { ObeysOf D.Kind.Kind.meaning D.SlotDevice board call result device.old job.old device.new job.new }
     ensures same { D.SlotDevice.lenders device.new ≡ D.SlotDevice.lenders device.old }
 {

@@ -2,7 +2,7 @@
 ghost use Rattle.std.specs.Prelude.{◌≡◌, ⊤};
 ghost use Rattle.shifting.specs.Machine.{look_up};
 
-use lent_board::{Answer, Call, Caller, serve};
+use board::{Answer, Call, Caller, serve};
 use rules::SlotDevice;
 
 #[derive(Drop)]

@@ -8,7 +8,7 @@ use Rattle.shifting.specs.Machine.{Ticket, Call, add, step, complete, withdraw, 
 use Rattle.shifting.specs.Law.{Sized, Worded}
 use Rattle.shifting.proofs.Serving.{sized_from}
 use Rattle.turns.specs.Shown.{Seen, Shows, ticket_of}
-use Rattle.lent_board.proofs.Lawed.{led_start, led_on}
+use Rattle.board.proofs.Lawed.{led_start, led_on}
 use Rattle.c_interface.specs.declared.forms.CallRecord.{CallRecord}
 use Rattle.c_interface.specs.declared.forms.AnswerRecord.{AnswerRecord}
 use Rattle.c_interface.specs.Crossing.{call_of, Tells, Obeys, Opens}

@@ -18,8 +18,8 @@ use Rattle.shifting.specs.Slots.{Slot}
 use Rattle.job.specs.declared.named.Named.{Named}
 use Rattle.job.specs.declared.job.Job.{Job}
 use Rattle.turns.specs.Shown.{Seen, seen, shown, Shows, Reached, fixed_by, ticket_of}
-use Rattle.lent_board.specs.Past.{past, answer_to}
-use Rattle.lent_board.specs.Led.{LedBy, Led, LedOn}
+use Rattle.board.specs.Past.{past, answer_to}
+use Rattle.board.specs.Led.{LedBy, Led, LedOn}
 use Rattle.c_interface.specs.declared.forms.CallRecord.{CallRecord}
 use Rattle.c_interface.specs.declared.forms.AnswerRecord.{AnswerRecord}
 

@@ -1,12 +1,12 @@
 -- The ticket in hand, from a call to its answer. Assumes nothing.
 use Rattle.std.proofs.Common.{◌≡◌, ℕ, ◌<◌, ◌≤◌, Some, None, Option, sym, refl, ap, ◌∙◌, subst, arith}
 use Rattle.shifting.specs.Machine.{Ticket, Call, add, step, complete, withdraw, drop_rule, change_action, look_up, Answer}
-use Rattle.lent_board.specs.declared.ticket.Ticket.{Ticket as RealTicket}
-use Rattle.lent_board.specs.declared.calls.Call.{Call as RealCall}
-use Rattle.lent_board.specs.declared.calls.Call.TheVariants as calls
-use Rattle.lent_board.specs.declared.calls.Answer.{Answer as RealAnswer}
-use Rattle.lent_board.specs.declared.calls.Answer.TheVariants.{Opened, Stepped, Closed, Done, Found, Refused, HandedBack}
-use Rattle.lent_board.specs.Calls.{answer_of, returned, goes_back, on_refusal}
+use Rattle.board.specs.declared.ticket.Ticket.{Ticket as RealTicket}
+use Rattle.board.specs.declared.calls.Call.{Call as RealCall}
+use Rattle.board.specs.declared.calls.Call.TheVariants as calls
+use Rattle.board.specs.declared.calls.Answer.{Answer as RealAnswer}
+use Rattle.board.specs.declared.calls.Answer.TheVariants.{Opened, Stepped, Closed, Done, Found, Refused, HandedBack}
+use Rattle.board.specs.Calls.{answer_of, returned, goes_back, on_refusal}
 use Rattle.order_run.specs.Running.{ticket_after}
 use Rattle.order_run.specs.Calling.{named, Good, Free, held_with, in_hand, kept, Room, count, start_of, IsWithdraw}
 use Rattle.orders.specs.declared.order.Order.{Order}
@@ -14,7 +14,7 @@ use Rattle.orders.specs.declared.order.Order.TheVariants as orders
 use Rattle.orders.specs.Orders.{letter_of}
 use Rattle.shifting.proofs.Serving.{after_push}
 use Rattle.order_run.proofs.Tickets.{Opens, opens, good_after, withdrawn}
-use Rattle.lent_board.specs.Serving.{Past, state_of, answer_to, one_more, Answers}
+use Rattle.board.specs.Serving.{Past, state_of, answer_to, one_more, Answers}
 
 abbrev is_some : {T : Type 0} → Option T → ℕ
 is_some None = 0

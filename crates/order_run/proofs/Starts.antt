@@ -2,8 +2,8 @@
 use Rattle.std.proofs.Common.{◌≡◌, ℕ, List, [], None, string_bytes, Option, sym, subst}
 use Rattle.shifting.specs.Slots.{Slot}
 use Rattle.shifting.specs.Machine.{Fixed}
-use Rattle.lent_board.specs.declared.ticket.Ticket.{Ticket as RealTicket}
-use Rattle.lent_board.specs.Serving.{Past, past, state_of}
+use Rattle.board.specs.declared.ticket.Ticket.{Ticket as RealTicket}
+use Rattle.board.specs.Serving.{Past, past, state_of}
 use Rattle.order_reader.proofs.Files.{Sofar, begins}
 use Rattle.order_run.specs.declared.caller.OrderCaller.{OrderCaller}
 use Rattle.order_run.specs.Calling.{named, Good, so_far, Reaches, HoldsIn, Holds, Fresh}

@@ -6,9 +6,9 @@ use Rattle.rules.specs.declared.refusal.Refusal.TheVariants.{Busy, RunOut, Forei
 use Rattle.shifting.specs.Slots.{tied, crossed, no_slot, jump_chain}
 use Rattle.shifting.specs.Machine.{Ticket, Call, add, step, complete, withdraw, drop_rule, change_action, look_up, Answer, opened, counted, done, found, refused, Job, State, Fixed, Turn, turn, refuse, when_idle, when_named, names, number_in, open_add, try_add, make_one, make_all, take_back, when_standing, erase_rule, rewrite_rule, written, place}
 use Rattle.order_run.specs.Running.{ticket_after, opened_or}
-use Rattle.lent_board.specs.Calls.{on_refusal}
+use Rattle.board.specs.Calls.{on_refusal}
 use Rattle.order_run.specs.Calling.{Good, held_with, named}
-use Rattle.lent_board.specs.declared.ticket.Ticket.{Ticket as RealTicket}
+use Rattle.board.specs.declared.ticket.Ticket.{Ticket as RealTicket}
 
 either : (P : Turn → Type 0) (b : Bool) (x y : Turn) → P x → P y → P (cond b x y)
 either P b x y p q = cond_both b x y P (λ _. p) (λ _. q)

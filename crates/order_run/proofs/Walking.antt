@@ -4,11 +4,11 @@ use Rattle.std.proofs.lemmas.List.{append-nil, length-drop}
 use Rattle.std.proofs.lemmas.Bool.{cond_both}
 use Rattle.rules.specs.declared.refusal.Refusal.TheVariants.{Foreign}
 use Rattle.shifting.specs.Machine.{Ticket, Call, add, step, complete, withdraw, drop_rule, change_action, look_up, Answer, refused, Fixed, State}
-use Rattle.lent_board.specs.declared.ticket.Ticket.{Ticket as RealTicket}
-use Rattle.lent_board.specs.declared.calls.Call.{Call as RealCall}
-use Rattle.lent_board.specs.declared.calls.Call.TheVariants.{Add, Step, Complete, Withdraw, DropRule, ChangeAction, LookUp}
-use Rattle.lent_board.specs.Calls.{call_of}
-use Rattle.lent_board.specs.Serving.{Past, state_of, answer_to, one_more}
+use Rattle.board.specs.declared.ticket.Ticket.{Ticket as RealTicket}
+use Rattle.board.specs.declared.calls.Call.{Call as RealCall}
+use Rattle.board.specs.declared.calls.Call.TheVariants.{Add, Step, Complete, Withdraw, DropRule, ChangeAction, LookUp}
+use Rattle.board.specs.Calls.{call_of}
+use Rattle.board.specs.Serving.{Past, state_of, answer_to, one_more}
 use Rattle.orders.specs.Layout.{front, whole}
 use Rattle.orders.specs.Orders.{Entry}
 use Rattle.order_reader.specs.File.{Ending, Cut, cut_file, front_of}

@@ -3,14 +3,14 @@
 use Rattle.std.specs.Prelude.{◌≡◌, ℕ, ◌+◌, ◌-◌, ◌*◌, ◌<◌, ◌≤◌, Bool, true, false, List, [], ◌∷◌, ◌++◌, length, Some, None, Ok, Err, string_bytes, Option, Result}
 use Rattle.std.specs.declared.alloc.AllocError.{AllocError}
 use Rattle.shifting.specs.Machine.{Ticket, Call, add, step, complete, withdraw, drop_rule, change_action, look_up, Job, State, Fixed, cleared, names}
-use Rattle.lent_board.specs.declared.ticket.Ticket.{Ticket as RealTicket}
-use Rattle.lent_board.specs.declared.calls.Call.{Call as RealCall}
-use Rattle.lent_board.specs.declared.calls.Call.TheVariants.{Add, Step, Complete, Withdraw, DropRule, ChangeAction, LookUp}
-use Rattle.lent_board.specs.declared.calls.Answer.{Answer as RealAnswer}
-use Rattle.lent_board.specs.declared.calls.Answer.TheVariants.{Opened, Stepped, Closed, Done, Found, Refused, HandedBack}
+use Rattle.board.specs.declared.ticket.Ticket.{Ticket as RealTicket}
+use Rattle.board.specs.declared.calls.Call.{Call as RealCall}
+use Rattle.board.specs.declared.calls.Call.TheVariants.{Add, Step, Complete, Withdraw, DropRule, ChangeAction, LookUp}
+use Rattle.board.specs.declared.calls.Answer.{Answer as RealAnswer}
+use Rattle.board.specs.declared.calls.Answer.TheVariants.{Opened, Stepped, Closed, Done, Found, Refused, HandedBack}
 use Rattle.turns.specs.Shown.{ticket_of}
-use Rattle.lent_board.specs.Calls.{call_of}
-use Rattle.lent_board.specs.Serving.{Past, state_of, answer_to}
+use Rattle.board.specs.Calls.{call_of}
+use Rattle.board.specs.Serving.{Past, state_of, answer_to}
 use Rattle.orders.specs.Orders.{Entry}
 use Rattle.order_reader.proofs.Files.{Sofar}
 use Rattle.order_run.specs.declared.caller.OrderCaller.{OrderCaller}

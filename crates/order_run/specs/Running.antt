@@ -10,7 +10,7 @@ use Rattle.shifting.specs.Slots.{Slot}
 use Rattle.shifting.specs.Machine.{Ticket, Call, add, step, complete, withdraw, drop_rule, change_action, look_up, Answer, opened, counted, done, found, refused, State, Fixed, cleared, turn, after, run_events}
 use Rattle.shifting.specs.Law.{LawOfRun}
 use Rattle.turns.specs.Shown.{fixed_by}
-use Rattle.lent_board.specs.Calls.{on_refusal}
+use Rattle.board.specs.Calls.{on_refusal}
 use Rattle.orders.specs.Layout.{number_in, priority_in, new_action_in, other_action_in, word_a_in, word_b_in, subject_in}
 use Rattle.orders.specs.Orders.{Entry}
 use Rattle.order_reader.specs.File.{Ending, cut_file}

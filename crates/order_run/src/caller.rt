@@ -3,7 +3,7 @@ ghost use Rattle.std.specs.Prelude.{◌≡◌};
 ghost use Rattle.orders.specs.Orders.{letter_of, place_of};
 ghost use Rattle.order_run.specs.Calling.{is_reading};
 
-use lent_board::Ticket;
+use board::Ticket;
 use order_reader::Reader;
 use orders::Order;
 

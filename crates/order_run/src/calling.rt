@@ -1,7 +1,7 @@
 // The walk of an order file's caller: from order to order, and from call to answer.
 ghost use Rattle.std.specs.Prelude.{◌≡◌, suc, ◌<◌, ◌≤◌, false, ◌++◌, string_bytes};
 ghost use Rattle.orders.specs.Orders.{entry_of};
-ghost use Rattle.lent_board.specs.Serving.{Past, Asks, Fewer, reads_off};
+ghost use Rattle.board.specs.Serving.{Past, Asks, Fewer, reads_off};
 ghost use Rattle.order_run.specs.declared.caller.Stage.TheVariants.{Reading};
 ghost use Rattle.order_run.specs.Lines.{line, number_told, value_told};
 ghost use Rattle.order_run.specs.Calling.{Unless, Holds, HoldsWith, Waits, Ends, open_ends, calls_left, turns_left, Falls, is_reading};
@@ -9,7 +9,7 @@ ghost use Rattle.order_run.specs.Calling.{Unless, Holds, HoldsWith, Waits, Ends,
 use crate::caller::{Head, OrderCaller, Stage};
 use crate::keeping::{call_for, keep};
 use crate::lines::{Reply, reply_to, write_line};
-use lent_board::{Answer, Call, Caller};
+use board::{Answer, Call, Caller};
 use orders::Order;
 use rules::Refusal;
 

@@ -4,7 +4,7 @@ ghost use Rattle.orders.specs.Orders.{entry_of};
 ghost use Rattle.order_run.specs.Running.{rule_in, call_in};
 ghost use Rattle.order_run.specs.Calling.{named, asked, in_hand, kept, Room};
 
-use lent_board::{Answer, Call, Ticket};
+use board::{Answer, Call, Ticket};
 use orders::{AddOrder, Order};
 use rules::Rule;
 

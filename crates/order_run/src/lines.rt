@@ -1,10 +1,10 @@
 // The lines of a run.
 ghost use Rattle.std.specs.Prelude.{◌≡◌, ◌<◌, ◌++◌, string_bytes, OnOk};
-ghost use Rattle.lent_board.specs.Calls.{answer_of};
+ghost use Rattle.board.specs.Calls.{answer_of};
 ghost use Rattle.order_run.specs.Lines.{Tells, line, number_told, value_told};
 
 use crate::caller::Head;
-use lent_board::Answer;
+use board::Answer;
 use rules::Refusal;
 use std::alloc::AllocError;
 

@@ -4,7 +4,7 @@ ghost use Rattle.order_run.specs.Running.{RanOn};
 ghost use Rattle.order_run.specs.Calling.{text_of, Fresh};
 
 use crate::caller::{OrderCaller, Stage};
-use lent_board::serve;
+use board::serve;
 use order_reader::Reader;
 use rules::SlotDevice;
 use std::alloc::{AllocError, Global};

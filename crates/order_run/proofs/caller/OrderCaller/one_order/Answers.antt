@@ -1,12 +1,12 @@
 use Rattle.std.proofs.Common.{◌≡◌, ◌<◌, ◌++◌, Some, string_bytes, sym, refl, ap, ◌∙◌, subst, arith}
-use Rattle.lent_board.specs.Calls.{call_of}
+use Rattle.board.specs.Calls.{call_of}
 use Rattle.orders.specs.Orders.{entry_of}
 use Rattle.order_run.specs.Calling.{named, asked, in_hand, WaitsFor, HoldsIn, Good, count}
 use Rattle.order_run.specs.Lines.{line, answer_line}
 use Rattle.rules.specs.Refusals.{number}
 use Rattle.rules.specs.declared.refusal.Refusal.TheVariants.{Foreign}
 use Rattle.shifting.specs.Machine.{refused}
-use Rattle.lent_board.specs.Serving.{state_of}
+use Rattle.board.specs.Serving.{state_of}
 use Rattle.order_run.proofs.Hands.{fewer_in_hand, letter_small}
 use Rattle.order_run.proofs.Walking.{order_asks, run_asks, run_refuses, line_told, told_holds}
 use Rattle.order_run.proofs.caller.OrderCaller.one_order.Goals as goal

@@ -1,7 +1,7 @@
 use Rattle.std.proofs.Common.{◌≡◌, Some, None, string_bytes, sym, refl, ap, ◌∙◌, subst, arith}
 use Rattle.shifting.specs.Machine.{Call}
-use Rattle.lent_board.specs.Calls.{answer_of}
-use Rattle.lent_board.specs.Serving.{Past, Answers}
+use Rattle.board.specs.Calls.{answer_of}
+use Rattle.board.specs.Serving.{Past, Answers}
 use Rattle.order_run.specs.Calling.{named, count, Waits, WaitsFor}
 use Rattle.order_run.specs.Lines.{number_told, value_told}
 use Rattle.order_run.proofs.Hands.{at_most_one, named_none, heard_keeps, heard_good, last_heard}

@@ -1,5 +1,5 @@
 use Rattle.std.proofs.Common.{◌≡◌, ◌≤◌}
-use Rattle.lent_board.specs.Serving.{Past}
+use Rattle.board.specs.Serving.{Past}
 use Rattle.order_run.specs.Calling.{Holds, calls_left, turns_left}
 use Rattle.order_run.proofs.calling.OrderCallerCaller.next.Given as goal
 

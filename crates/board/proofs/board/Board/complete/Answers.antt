@@ -1,0 +1,10 @@
+use Rattle.std.proofs.Common.{rules}
+use Rattle.shifting.specs.Machine.{complete}
+use Rattle.turns.specs.Shown.{ticket_of}
+use Rattle.board.proofs.Lawed.{lawfully}
+use Rattle.board.proofs.board.Board.complete.Goals as goal
+
+pub returns-clause-law : goal.returns-clause-law
+returns-clause-law g c =
+    lawfully _ g.D.SlotDevice.stored g.met.D.Kind.Kind.lawful (complete (ticket_of c.args.ticket.named)) _ _ _ tt
+    (rw (c.settled.ensures.answer, ← c.named.ensures) (search rules))

@@ -1,10 +1,11 @@
 -- What stands in the slots of a device over records. Assumes nothing.
-use Rattle.std.proofs.Common.{◌≡◌, ℕ, ◌+◌, ◌-◌, ◌<◌, ◌≤◌, min, cond, leb, List, ◌++◌, map, length, get_or, take, Some, None, sym, refl, ap, ◌∙◌, ⊎_elim, arith, length-append, length-take}
+use Rattle.std.proofs.Common.{◌≡◌, ℕ, ◌+◌, ◌-◌, ◌<◌, ◌≤◌, min, cond, leb, List, ◌++◌, map, length, get_or, take, Some, None, sym, refl, ◌∙◌, ⊎_elim, arith, length-append, length-take}
 use lib.ListN.{length-map}
-use Rattle.std.proofs.lemmas.Bool.{cond-true, cond-false, ne_eqb, eq-eqb, cases_eq, cases_lt, cond_both, leb-true}
+use Rattle.std.proofs.lemmas.Bool.{cond-false, ne_eqb, cases_lt, cond_both, leb-true}
 use Rattle.std.proofs.lemmas.List.FromFn.{length-map-range_with_len, get_or-map-range_with_len}
 use Rattle.std.specs.List.{range_with_len}
 use Rattle.std.proofs.lemmas.List.{get_or-map, get_or_past, get_or_append_left, get_or-append_right}
+use Rattle.std.proofs.lemmas.Bool.Decides.{nat_tests}
 use Rattle.rules.specs.declared.rule.Rule.{Rule}
 use Rattle.rules.specs.Slots.{Slot, SlotLaws, in_slot}
 
@@ -16,17 +17,7 @@ in_slot_taken rule numbered = cond-false _ _ _ (ne_eqb rule.number 0 numbered)
 
 -- what stands for a rule has that rule's number, and it is not 0
 in_slot_numbered : (held rule : Rule) → in_slot held ≡ Some rule → rule.number ≡ 0 → ⊥
-in_slot_numbered held rule is none =
-    ⊎_elim
-    (λ zero_number.
-    let empty : in_slot held ≡ None = cond-true _ _ _ (eq-eqb held.number 0 zero_number) in
-    let both : ◌≡◌ {A = ℕ} 0 1 = cc in
-    omega arith)
-    (λ numbered.
-    let taken = in_slot_taken held numbered in
-    let same : held ≡ rule = cc in
-    numbered (ap (λ (r : Rule). r.number) same ∙ none))
-    (cases_eq held.number 0)
+in_slot_numbered held rule is none = grind (arith, nat_tests)
 
 -- slots that stand for records are lawful, if they are not too many
 records_lawful : (slots : List Slot) (held : ℕ → Rule) → length slots ≤ 65535 → ((slot : ℕ) → slot < length slots → get_or slots slot None ≡ in_slot (held slot)) → SlotLaws slots

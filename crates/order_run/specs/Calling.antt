@@ -20,10 +20,6 @@ use Rattle.order_run.specs.declared.caller.Stage.TheVariants.{Reading, Ended, Fa
 use Rattle.order_run.specs.Lines.{answer_line}
 use Rattle.order_run.specs.Running.{Run, begun, ticket_after, closing, all_orders, file_run}
 
--- what it reads its calls off
-abbrev pub Bytes : Type 0
-Bytes = List ℕ
-
 -- Tickets.
 
 -- what a ticket in hand names

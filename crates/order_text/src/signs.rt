@@ -48,7 +48,7 @@ fn sign(code: u64) -> char
     }
 }
 
-// Kept: a rule of this project: a must-fail edit keeps its mistake, and `{word:016X}` has no letter to get wrong.
+// Kept: char::from_digit would be no plainer: it gives small letters, and an Option.
 fn digit(code: u64) -> char
     requires { code < 16 }
     ensures value { result ≡ digit code }

@@ -22,7 +22,7 @@ impl Chain {
         ensures length { self.new.length ≡ self.old.length + 1 }
         ensures slots { take self.new.length self.new.places ≡ take self.old.length self.old.places ++ slot ∷ [] }
     {
-        self.places[self.length as usize] = slot;
+        self.places[usize::from(self.length)] = slot;
         self.length += 1;
     }
 
@@ -30,6 +30,6 @@ impl Chain {
     pub fn slot(&self, place: u16) -> u16
         ensures { result ≡ slice_index self.now.places place }
     {
-        self.places.get(place as usize).copied().unwrap_or(0)
+        self.places.get(usize::from(place)).copied().unwrap_or(0)
     }
 }

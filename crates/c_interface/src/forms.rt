@@ -43,36 +43,47 @@ fn telling(refusal: u32, value: u32, number: u16) -> AnswerRecord
     }
 }
 
-pub(crate) fn refused(refusal: Refusal) -> AnswerRecord
-    ensures { result ≡ telling (number refusal) 0 0 }
-{
-    telling(u32::from(refusal.number()), 0, 0)
+impl From<Refusal> for AnswerRecord {
+    ghost from_gives = { λ refusal answer. answer ≡ telling (number refusal) 0 0 };
+
+    fn from(refusal: Refusal) -> AnswerRecord {
+        telling(u32::from(refusal.number()), 0, 0)
+    }
 }
 
-pub(crate) fn opened(res: Result<Named, Refusal>) -> AnswerRecord
-    ensures { result ≡ told_by (opening res) }
-{
-    res.map_or_else(
-        refused,
-        |ticket| AnswerRecord {
-            refusal: 0,
-            value: u32::from(ticket.length),
-            number: 0,
-            ticket,
-        },
-    )
+// What an add answers.
+impl From<Result<Named, Refusal>> for AnswerRecord {
+    ghost from_gives = { λ res answer. answer ≡ told_by (opening res) };
+
+    fn from(res: Result<Named, Refusal>) -> AnswerRecord {
+        res.map_or_else(
+            AnswerRecord::from,
+            |ticket| AnswerRecord {
+                refusal: 0,
+                value: u32::from(ticket.length),
+                number: 0,
+                ticket,
+            },
+        )
+    }
 }
 
-pub(crate) fn counted(res: Result<u16, Refusal>) -> AnswerRecord
-    ensures { result ≡ told_by (counting res) }
-{
-    res.map_or_else(refused, |count| telling(0, u32::from(count), 0))
+// A step, a complete or a withdraw.
+impl From<Result<u16, Refusal>> for AnswerRecord {
+    ghost from_gives = { λ res answer. answer ≡ told_by (counting res) };
+
+    fn from(res: Result<u16, Refusal>) -> AnswerRecord {
+        res.map_or_else(AnswerRecord::from, |count| telling(0, u32::from(count), 0))
+    }
 }
 
-pub(crate) fn done(res: Result<(), Refusal>) -> AnswerRecord
-    ensures { result ≡ told_by (doing res) }
-{
-    res.map_or_else(refused, |()| telling(0, 0, 0))
+// A drop or a change.
+impl From<Result<(), Refusal>> for AnswerRecord {
+    ghost from_gives = { λ res answer. answer ≡ told_by (doing res) };
+
+    fn from(res: Result<(), Refusal>) -> AnswerRecord {
+        res.map_or_else(AnswerRecord::from, |()| telling(0, 0, 0))
+    }
 }
 
 fn winner(told: Option<(u16, u32)>) -> AnswerRecord
@@ -82,8 +93,11 @@ fn winner(told: Option<(u16, u32)>) -> AnswerRecord
     telling(0, action, rule)
 }
 
-pub(crate) fn found(res: Result<Option<(u16, u32)>, Refusal>) -> AnswerRecord
-    ensures { result ≡ told_by (finding res) }
-{
-    res.map_or_else(refused, winner)
+// A look-up.
+impl From<Result<Option<(u16, u32)>, Refusal>> for AnswerRecord {
+    ghost from_gives = { λ res answer. answer ≡ told_by (finding res) };
+
+    fn from(res: Result<Option<(u16, u32)>, Refusal>) -> AnswerRecord {
+        res.map_or_else(AnswerRecord::from, winner)
+    }
 }

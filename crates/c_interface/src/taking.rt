@@ -2,7 +2,7 @@
 ghost use Rattle.std.specs.Prelude.{◌≡◌};
 ghost use Rattle.c_interface.specs.Crossing.{TellsOf, ObeysOf, OpensOf, RefusedKeeps};
 
-use crate::forms::{AnswerRecord, CallRecord, counted, done, found, opened, refused};
+use crate::forms::{AnswerRecord, CallRecord};
 use job::Job;
 use rules::{Refusal, SlotDevice};
 use turns::{
@@ -23,14 +23,14 @@ fn take<D: SlotDevice>(device: &mut D, board: u16, job: &mut Job, call: CallReco
     ensures same { D.SlotDevice.lenders device.new ≡ D.SlotDevice.lenders device.old }
 {
     match call.letter {
-        b'A' => opened(open_add(device, board, job, call.rule)),
-        b'S' => counted(step_add(device, board, job, call.ticket)),
-        b'E' => counted(complete_add(device, board, job, call.ticket)),
-        b'W' => counted(withdraw_add(device, board, job, call.ticket)),
-        b'D' => done(drop_rule(device, board, job, call.rule.number)),
-        b'C' => done(change_rule(device, board, job, call.rule.number, call.rule.action)),
-        b'L' => found(look_up_rule(device, board, job, call.subject)),
-        _ => refused(Refusal::StrangeLetter),
+        b'A' => open_add(device, board, job, call.rule).into(),
+        b'S' => step_add(device, board, job, call.ticket).into(),
+        b'E' => complete_add(device, board, job, call.ticket).into(),
+        b'W' => withdraw_add(device, board, job, call.ticket).into(),
+        b'D' => drop_rule(device, board, job, call.rule.number).into(),
+        b'C' => change_rule(device, board, job, call.rule.number, call.rule.action).into(),
+        b'L' => look_up_rule(device, board, job, call.subject).into(),
+        _ => Refusal::StrangeLetter.into(),
     }
 }
 

@@ -10,6 +10,7 @@ use crate::calls::{Answer, Call};
 use rules::SlotDevice;
 
 // One call, whichever it is.
+// Kept: a closure in a call's place would be no plainer: the contract of a caller names the call that it makes.
 fn take_call<D: SlotDevice>(board: &mut Board<'_, D>, call: Call) -> Answer
     ensures law { Obeys D.Kind.Kind.meaning D.SlotDevice (call_of call) (answer_of result) board.old board.new }
     ensures back { returned result ≡ goes_back (call_of call) (answer_of result) }

@@ -9,6 +9,7 @@ use job::Named;
 use rules::{Refusal, Rule};
 
 // Its letter is that of an order. What the letter does not use is not looked at.
+// Kept: the C interface has a call as a letter and numbers.
 #[derive(Clone, Copy)]
 #[repr(C)]
 pub struct CallRecord {
@@ -19,6 +20,7 @@ pub struct CallRecord {
 }
 
 // The refusal's number, or 0. What an answer does not tell is 0.
+// Kept: the C interface has an answer as numbers.
 #[derive(Clone, Copy)]
 #[repr(C)]
 pub struct AnswerRecord {

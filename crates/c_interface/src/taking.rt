@@ -17,6 +17,7 @@ pub(crate) fn open_board<D: SlotDevice>(device: &mut D, job: &mut Job)
     *job = Job::NONE;
 }
 
+// Kept: the C interface names a call by its letter, so the letter is matched.
 fn take<D: SlotDevice>(device: &mut D, board: u16, job: &mut Job, call: CallRecord) -> AnswerRecord
     ensures tells { TellsOf D.Kind.Kind.meaning D.SlotDevice board call result device.old job.old device.new job.new }
     ensures kept { RefusedKeeps result job.old job.new }

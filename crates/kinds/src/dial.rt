@@ -60,6 +60,7 @@ fn places_meet(code: u64, other: u64) -> bool
 }
 
 // First places first, then what remains of both.
+// Kept: a rule of this project: two patterns are compared by a call on itself with the places left.
 fn patterns_meet(mut pattern: Places, mut other: Places) -> bool
     ensures { result ≡ patterns_meet pattern other }
 {

@@ -36,6 +36,7 @@ impl<D: SlotDevice, E: SlotDevice<Kind = D::Kind>> Pair<D, E> {
     }
 
     // The same of an erase.
+    // Kept: one function for both would be no plainer: it would take a closure for each device, since the two have different types.
     pub(crate) fn erase_half(&mut self, slot: u16) -> Result<(), Refusal>
         ensures answer { result ≡ answer (on_half erasing (D.SlotDevice.slots self.old.first) (E.SlotDevice.slots self.old.second) slot) }
         ensures first { CarriesOut D.SlotDevice (on_first erasing (D.SlotDevice.slots self.old.first) (E.SlotDevice.slots self.old.second) slot) self.old.first self.new.first }

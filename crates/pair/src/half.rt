@@ -2,6 +2,7 @@
 ghost use Rattle.std.specs.Prelude.{◌≡◌, ◌+◌, nat_le};
 ghost use Rattle.pair.specs.Halves.{half_of};
 
+// Kept: Either would be no plainer: its two cases have no names of their own.
 #[derive(Clone, Copy)]
 pub(crate) enum Half {
     First(u16),

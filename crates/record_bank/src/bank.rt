@@ -8,6 +8,7 @@ ghost use Rattle.record_bank.specs.Records.{LentRecords, most_slots, bank_slots,
 use kinds::Dial;
 use rules::{Event, Refusal, Rule, SlotDevice, slot_matches};
 
+// Kept: one constant with the slots that a board uses would be no plainer: they are two rules, of which each may change alone.
 const MOST_SLOTS: usize = 480;
 
 // Records past the first 480 are not slots, and are never read or written.

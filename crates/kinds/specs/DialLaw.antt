@@ -34,6 +34,9 @@ ends_take (code ∷ codes) (symbol ∷ symbols) same ends symbol-ends =
     let both : takes code symbol ≡ true = rw (eqb-true code end here.0, eqb-true symbol end there.0) in
     takes_more code symbol codes symbols both (ends_take codes symbols (omega arith) here.1 there.1)
 
+ends_close : (codes : List ℕ) → only_ends codes ≡ true → subject_well_formed (end ∷ codes) ≡ true
+ends_close codes ends = ends
+
 closes_after : (code : ℕ) (codes : List ℕ) → code < rest → pattern_well_formed (code ∷ codes) ≡ true → pattern_well_formed codes ≡ true
 closes_after code codes below closes = sym (cond-true (nat_lt code rest) _ _ (lt-ltb code rest below)) ∙ closes
 
@@ -68,7 +71,7 @@ alone (code ∷ codes) fit closes =
     let last : code ≡ end = omega arith in
     takes_more code end codes codes (rw last) (ends_take codes codes refl ends ends))
     (cases_eq code rest) in
-    record { symbols = end ∷ codes; many = refl; fit = (omega arith, fit.1); closes = ends; first = taken; second = taken })
+    record { symbols = end ∷ codes; many = refl; fit = (omega arith, fit.1); closes = ends_close codes ends; first = taken; second = taken })
     (cases_lt code rest)
 
 more : (code other : ℕ) (codes others : List ℕ) → Codes (code ∷ codes) → Codes (other ∷ others) → length codes ≡ length others
@@ -125,7 +128,7 @@ more code other codes others fit other-fit same closes other-closes meet remains
           symbols = end ∷ codes;
           many = refl;
           fit = (omega arith, fit.1);
-          closes = ends;
+          closes = ends_close codes ends;
           first = takes_more code end codes codes (rw is-end) (ends_take codes codes refl ends ends);
           second = takes_more other end others codes (rw other-end) (ends_take others codes (sym same) other-ends ends);
         }

@@ -1,5 +1,5 @@
 -- A test whose answers are known: the first slot that passes is the first of a scan. Assumes nothing.
-use Rattle.std.proofs.Common.{◌≡◌, ℕ, ◌-◌, ◌<◌, ◌≤◌, Bool, true, ltb, is_some, List, Some, None, Option, MatchOption, sym, arith}
+use Rattle.std.proofs.Common.{◌≡◌, ℕ, ◌-◌, ◌<◌, ◌≤◌, Bool, true, ltb, is_some, List, Some, None, Option, MatchOption, subst, sym, arith}
 use Rattle.rules.specs.Slots.{place_within}
 use Rattle.shifting.specs.Chains.{scan}
 use Rattle.shifting.specs.Slots.{Slot, at}
@@ -19,10 +19,11 @@ module _ (Answers : Slot → Bool → Type 0) (test : Slot → Bool) (slots : Li
       grind (arith, scan_low, scan_hit, first.none_before, known)
 
 -- what `find` tells of the slots
-pub first_found : (Answers : Slot → Bool → Type 0) (slots : List Slot) (low end : ℕ) (found : Option ℕ)
-    → MatchOption found (NonePasses Answers slots low end) (λ slot. (low ≤ slot) × (slot < end) × Answers (at slots slot) true × NonePasses Answers slots low slot) → FirstPassing Answers slots low end found
-first_found Answers slots low end None none = record { passes = tt; none_before = none }
-first_found Answers slots low end (Some slot) first = record { passes = record { after = first.0; before = first.1; passes = first.2 }; none_before = first.3 }
+pub first_found : (Answers : Slot → Bool → Type 0) (slots : List Slot) (start low end : ℕ) (found : Option ℕ)
+    → MatchOption found (NonePasses Answers slots start end) (λ slot. (start ≤ slot) × (slot < end) × Answers (at slots slot) true × NonePasses Answers slots start slot) → start ≡ low → FirstPassing Answers slots low end found
+first_found Answers slots start low end None none is = subst (λ l. FirstPassing Answers slots l end None) is (record { passes = tt; none_before = none })
+first_found Answers slots start low end (Some slot) first is =
+    subst (λ l. FirstPassing Answers slots l end (Some slot)) is (record { passes = record { after = first.0; before = first.1; passes = first.2 }; none_before = first.3 })
 
 -- whether a place is found
 pub some_place : (count place : ℕ) → is_some (place_within count place) ≡ ltb place count

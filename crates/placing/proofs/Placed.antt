@@ -28,8 +28,9 @@ module _ (kind : KindMeaning) (slots : List Slot) (new : Rule) (from to : ℕ) (
   placed_well straight free = grind (arith, is_crossed, is_full)
 
 -- no slot from one on is found empty
-pub full_is : (slots : List Slot) (from count : ℕ) (found : Option ℕ) (full : Bool) → count ≡ usable slots → found ≡ place_within count (scan (is_empty slots) from (count - from)) → is_some found ≡ not full → full ≡ full_from slots from
-full_is slots from count found full count-is found-is none = grind (arith, some_place)
+pub full_is : (slots : List Slot) (from count end : ℕ) (found : Option ℕ) (full : Bool) → count ≡ usable slots → found ≡ place_within end (scan (is_empty slots) from (end - from)) → end ≡ count → is_some found ≡ not full
+    → full ≡ full_from slots from
+full_is slots from count end found full count-is found-is end-is none = grind (arith, some_place)
 
 -- one more slot in a chain
 

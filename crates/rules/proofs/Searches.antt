@@ -1,5 +1,5 @@
 -- A search over the places of a list, from the first on, finds the first place that passes. Assumes nothing.
-use Rattle.std.proofs.Common.{◌≡◌, ℕ, zero, suc, ◌<◌, ◌≤◌, Bool, true, false, List, [], ◌∷◌, length, get_or, Some, None, Option, arith}
+use Rattle.std.proofs.Common.{◌≡◌, ℕ, zero, suc, ◌<◌, ◌≤◌, Bool, true, false, List, [], ◌∷◌, length, get_or, Some, None, Option, subst, arith}
 use Rattle.std.proofs.lemmas.Bool.Decides.{nat_tests}
 use Rattle.std.proofs.lemmas.Grind.{common_steps}
 use Rattle.std.specs.Option.{MatchOption}
@@ -23,7 +23,15 @@ module _ {X : Type 0} (passes : X → Bool) (d : X) where
   found_first (x ∷ xs) (suc place) below passing failing =
       grind (arith, common_steps, nat_tests, failing 0 (omega arith) (omega arith), found_first xs place (omega arith) passing (later x xs place failing))
 
-  pub first_found : (xs : List X) (found : Option ℕ) → MatchOption found (Failing xs (length xs)) (λ place. (0 ≤ place) × (place < length xs) × (passes (get_or xs place d) ≡ true) × Failing xs place)
-      → found ≡ place_within (length xs) (first_place passes xs)
-  first_found xs None failing = grind (arith, common_steps, nat_tests, none_first xs failing)
-  first_found xs (Some place) is = grind (arith, common_steps, nat_tests, found_first xs place is.1 is.2 is.3)
+  -- where a search over these places from one of them on ends
+  abbrev Found : List X → ℕ → Option ℕ → Type 0
+  Found xs start found =
+      MatchOption found ((place : ℕ) → start ≤ place → place < length xs → passes (get_or xs place d) ≡ false)
+      (λ place. (start ≤ place) × (place < length xs) × (passes (get_or xs place d) ≡ true) × ((earlier : ℕ) → start ≤ earlier → earlier < place → passes (get_or xs earlier d) ≡ false))
+
+  from_first : (xs : List X) (found : Option ℕ) → Found xs 0 found → found ≡ place_within (length xs) (first_place passes xs)
+  from_first xs None failing = grind (arith, common_steps, nat_tests, none_first xs failing)
+  from_first xs (Some place) is = grind (arith, common_steps, nat_tests, found_first xs place is.1 is.2 is.3)
+
+  pub first_found : (xs : List X) (start : ℕ) (found : Option ℕ) → Found xs start found → start ≡ 0 → found ≡ place_within (length xs) (first_place passes xs)
+  first_found xs start found is start-is = from_first xs found (subst (λ s. Found xs s found) start-is is)

@@ -7,25 +7,25 @@ pub loop-slot-preserved-in-Some-Greater : goal.loop-slot-preserved-in-Some-Great
 loop-slot-preserved-in-Some-Greater g c =
     let standing = c.standing_of.ensures in
     surveyed_more _ _ _ _ c.loop-slot.slot (c.loop-slot.slot - 1) c.loop-slot.from c.loop-slot.to _ _ c.loop-slot.tied _ _ _ (Some Greater) (omega arith) (omega arith) c.slot_at.ensures (cc) standing.above standing.below standing.level
-    (grind arith) refl refl c.loop-slot.invariant
+    (grind arith) (cc) (cc) c.loop-slot.invariant
 
 pub loop-slot-preserved-in-Some-Less : goal.loop-slot-preserved-in-Some-Less
 loop-slot-preserved-in-Some-Less g c =
     let standing = c.standing_of.ensures in
     surveyed_more _ _ _ _ c.loop-slot.slot (c.loop-slot.slot - 1) c.loop-slot.from c.loop-slot.to _ _ c.loop-slot.tied _ _ _ (Some Less) (omega arith) (omega arith) c.slot_at.ensures (cc) standing.above standing.below standing.level
-    refl refl refl c.loop-slot.invariant
+    (cc) (cc) (cc) c.loop-slot.invariant
 
 pub loop-slot-preserved-in-Some-Equal : goal.loop-slot-preserved-in-Some-Equal
 loop-slot-preserved-in-Some-Equal g c =
     let standing = c.standing_of.ensures in
     surveyed_more _ _ _ _ c.loop-slot.slot (c.loop-slot.slot - 1) c.loop-slot.from c.loop-slot.to _ _ c.loop-slot.tied _ _ _ (Some Equal) (omega arith) (omega arith) c.slot_at.ensures (cc) standing.above standing.below standing.level
-    refl refl refl c.loop-slot.invariant
+    (cc) (cc) (cc) c.loop-slot.invariant
 
 pub loop-slot-preserved : goal.loop-slot-preserved
 loop-slot-preserved g c =
     let standing = c.standing_of.ensures in
     surveyed_more _ _ _ _ c.loop-slot.slot (c.loop-slot.slot - 1) c.loop-slot.from c.loop-slot.to _ _ c.loop-slot.tied _ _ _ None (omega arith) (omega arith) c.slot_at.ensures (cc) standing.above standing.below standing.level
-    refl refl refl c.loop-slot.invariant
+    (cc) (cc) (cc) c.loop-slot.invariant
 
 pub returns : goal.returns
 returns g c =

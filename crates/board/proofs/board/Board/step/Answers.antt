@@ -6,4 +6,4 @@ use Rattle.board.proofs.board.Board.step.Goals as goal
 pub returns-clause-law : goal.returns-clause-law
 returns-clause-law g c =
     lawfully _ g.D.SlotDevice.stored g.met.D.Kind.Kind.lawful (step (ticket_of c.args.ticket.now.named)) _ _ _ tt
-    (rw (← c.named.ensures) c.step_add.ensures.takes)
+    (rw (← c.named.ensures) (search rules))

@@ -1,4 +1,4 @@
-use Rattle.std.proofs.Common.{◌≡◌, true, false, get_or, None, rules}
+use Rattle.std.proofs.Common.{◌≡◌, true, false, get_or, None, rules, arith}
 use Rattle.std.proofs.lemmas.Iterator.{first_from_Range}
 use Rattle.rules.specs.Slots.{slot_matches}
 use Rattle.rules.proofs.Searches.{first_found}
@@ -12,8 +12,9 @@ returns c =
     let slots = chip_slots c.args.self.now.words.now in
     record {
       answer =
-          first_found passes None slots c.find.result
+          first_found passes None slots _ c.find.result
           (rw c.slot_count.ensures at
           (first_from_Range _ _ _ _ (λ slot. passes (get_or slots slot None) ≡ true) (λ slot. passes (get_or slots slot None) ≡ false) c.find.ensures.ran
-          (λ slot f called. search rules) (λ slot f called. search rules)));
+          (λ slot f called. search rules) (λ slot f called. search rules)))
+          (omega arith);
     }

@@ -15,8 +15,9 @@ returns g c =
     let a = g.D.SlotDevice.slots c.args.self.now.first in
     let b = g.E.SlotDevice.slots c.args.self.now.second in
     let second = match_in_second (length a) (length b) (first_match g.D.Kind.Kind.meaning b c.args.subject) in
+    let first : c.first_match-first.result ≡ first_match g.D.Kind.Kind.meaning a c.args.subject = search rules in
     record {
       answer =
-          or_called _ second _ _ (λ called. search rules) c.or_else.ensures ∙ ap (λ first. option_or first second) c.first_match-first.ensures.answer
+          or_called _ second _ _ (λ called. search rules) c.or_else.ensures ∙ ap (λ first. option_or first second) first
           ∙ match_halves (slot_matches g.D.Kind.Kind.meaning c.args.subject) a b;
     }

@@ -1,3 +1,4 @@
+use Rattle.std.proofs.Common.{rules}
 use Rattle.shifting.specs.Machine.{change_action}
 use Rattle.board.proofs.Lawed.{lawfully}
 use Rattle.board.proofs.board.Board.change.Goals as goal

@@ -1,3 +1,4 @@
+use Rattle.std.proofs.Common.{rules}
 use Rattle.shifting.specs.Machine.{drop_rule}
 use Rattle.board.proofs.Lawed.{lawfully}
 use Rattle.board.proofs.board.Board.drop.Goals as goal

@@ -1,3 +1,4 @@
+use Rattle.std.proofs.Common.{rules}
 use Rattle.shifting.specs.Machine.{look_up}
 use Rattle.board.proofs.Lawed.{lawfully}
 use Rattle.board.proofs.board.Board.look_up.Goals as goal

@@ -1,3 +1,4 @@
+use Rattle.std.proofs.Common.{rules}
 use Rattle.shifting.specs.Machine.{step}
 use Rattle.turns.specs.Shown.{ticket_of}
 use Rattle.board.proofs.Lawed.{lawfully}

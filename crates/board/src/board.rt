@@ -1,5 +1,6 @@
 // A board over one slot device.
 ghost use Rattle.std.specs.Prelude.{◌≡◌};
+ghost use Rattle.rules.specs.Devices.{SameLoans};
 ghost use Rattle.shifting.specs.Machine.{add, step, complete, withdraw, drop_rule, change_action, look_up};
 ghost use Rattle.turns.specs.Shown.{ticket_of, counting, doing, finding};
 ghost use Rattle.board.specs.Led.{Opened, Obeys, Same, ticketed, spent, HandedBack};
@@ -44,7 +45,7 @@ impl<'a, D: SlotDevice> Board<'a, D> {
         ensures law { Opened D.Kind.Kind.meaning D.SlotDevice number device.old result }
         ensures number { result.number ≡ number }
         ensures device { result.device.ghost_name ≡ device.entry.ghost_name }
-        ensures lenders { D.SlotDevice.lenders result.device.now ≡ D.SlotDevice.lenders device.old }
+        ensures lenders { SameLoans D.SlotDevice device.old result.device.now }
     {
         clear(device);
         Board {

@@ -1,5 +1,6 @@
 // Serving whoever issues calls, from a cleared board to the caller's end.
 ghost use Rattle.std.specs.Prelude.{◌≡◌, []};
+ghost use Rattle.rules.specs.Devices.{SameLoans};
 ghost use Rattle.board.specs.Led.{Obeys, Same};
 ghost use Rattle.board.specs.Calls.{call_of, answer_of, returned, goes_back};
 ghost use Rattle.board.specs.Serving.{past_of, Served};
@@ -35,7 +36,7 @@ fn take_call<D: SlotDevice>(board: &mut Board<'_, D>, call: Call) -> Answer
 pub fn serve<D: SlotDevice, C: Caller>(device: &mut D, number: u16, caller: &mut C)
     requires { C.Caller.holds caller.old (past_of D.Kind.Kind.meaning D.SlotDevice number device.old []) }
     ensures served { Served C.Caller.ended D.Kind.Kind.meaning D.SlotDevice number device.old device.new caller.new }
-    ensures same { D.SlotDevice.lenders device.new ≡ D.SlotDevice.lenders device.old }
+    ensures same { SameLoans D.SlotDevice device.old device.new }
     ensures script { C.Caller.reads.of caller.new ≡ C.Caller.reads.of caller.old }
 {
     let mut board = Board::open(device, number);

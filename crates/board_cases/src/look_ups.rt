@@ -1,5 +1,6 @@
 // A caller that looks the same subject up, so many times.
 ghost use Rattle.std.specs.Prelude.{◌≡◌, ⊤};
+ghost use Rattle.rules.specs.Devices.{SameLoans};
 ghost use Rattle.shifting.specs.Machine.{look_up};
 
 use board::{Answer, Call, Caller, serve};
@@ -39,7 +40,7 @@ impl Caller for LookUps {
 }
 
 pub fn serve_look_ups<D: SlotDevice>(device: &mut D, number: u16, subject: u64, times: u16) -> u16
-    ensures same { D.SlotDevice.lenders device.new ≡ D.SlotDevice.lenders device.old }
+    ensures same { SameLoans D.SlotDevice device.old device.new }
 {
     let mut caller = LookUps {
         subject,

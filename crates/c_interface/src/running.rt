@@ -1,5 +1,6 @@
 // Running an order file, from C.
 ghost use Rattle.std.specs.Prelude.{◌≡◌, length, string_bytes};
+ghost use Rattle.rules.specs.Devices.{SameLoans};
 ghost use Rattle.record_bank.specs.Records.{record_changed};
 ghost use Rattle.chip_image.specs.Chip.{chip_changed};
 ghost use Rattle.c_interface.specs.declared.running.Failure.TheVariants.{Memory};
@@ -14,6 +15,7 @@ use rules::{Rule, SlotDevice};
 use std::alloc::{AllocError, Global};
 
 // No line shows the board's number.
+// Kept: one constant with the exchange's own board would be no plainer: each contract names its own.
 const BOARD: u16 = 1;
 
 // Why a run gives no lines.
@@ -82,7 +84,7 @@ fn run<D: SlotDevice>(
     lines: &mut [u8],
 ) -> Result<i64, Failure>
     ensures runs { RunsOn D.Kind.Kind.meaning D.SlotDevice orders.now (answered result) device.old lines.old device.new lines.new }
-    ensures same { D.SlotDevice.lenders device.new ≡ D.SlotDevice.lenders device.old }
+    ensures same { SameLoans D.SlotDevice device.old device.new }
 {
     if orders.len() > LONGEST {
         return Err(Failure::Long);
@@ -94,6 +96,7 @@ fn run<D: SlotDevice>(
     fill_with(lines, text)
 }
 
+// Kept: the C interface has no generic function, so each device has its own run, over the generic one.
 #[unsafe(no_mangle)]
 pub extern "C" fn exchange_dial_run(
     heap: Global,

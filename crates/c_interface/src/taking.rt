@@ -1,5 +1,6 @@
 // Opening a board over any device, and one call on it by its record.
 ghost use Rattle.std.specs.Prelude.{◌≡◌};
+ghost use Rattle.rules.specs.Devices.{SameLoans};
 ghost use Rattle.c_interface.specs.Crossing.{TellsOf, ObeysOf, OpensOf, RefusedKeeps};
 
 use crate::forms::{AnswerRecord, CallRecord};
@@ -11,7 +12,7 @@ use turns::{
 
 pub(crate) fn open_board<D: SlotDevice>(device: &mut D, job: &mut Job)
     ensures opens { OpensOf D.Kind.Kind.meaning D.SlotDevice device.old job.old device.new job.new }
-    ensures same { D.SlotDevice.lenders device.new ≡ D.SlotDevice.lenders device.old }
+    ensures same { SameLoans D.SlotDevice device.old device.new }
 {
     clear(device);
     *job = Job::NONE;
@@ -21,7 +22,7 @@ pub(crate) fn open_board<D: SlotDevice>(device: &mut D, job: &mut Job)
 fn take<D: SlotDevice>(device: &mut D, board: u16, job: &mut Job, call: CallRecord) -> AnswerRecord
     ensures tells { TellsOf D.Kind.Kind.meaning D.SlotDevice board call result device.old job.old device.new job.new }
     ensures kept { RefusedKeeps result job.old job.new }
-    ensures same { D.SlotDevice.lenders device.new ≡ D.SlotDevice.lenders device.old }
+    ensures same { SameLoans D.SlotDevice device.old device.new }
 {
     match call.letter {
         b'A' => open_add(device, board, job, call.rule).into(),
@@ -45,7 +46,7 @@ pub(crate) fn call_board<D: SlotDevice>(
     ensures tells { TellsOf D.Kind.Kind.meaning D.SlotDevice board call result device.old job.old device.new job.new }
     ensures kept { RefusedKeeps result job.old job.new }
     ensures law { ObeysOf D.Kind.Kind.meaning D.SlotDevice board call result device.old job.old device.new job.new }
-    ensures same { D.SlotDevice.lenders device.new ≡ D.SlotDevice.lenders device.old }
+    ensures same { SameLoans D.SlotDevice device.old device.new }
 {
     take(device, board, job, call)
 }

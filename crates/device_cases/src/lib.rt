@@ -2,6 +2,7 @@
 #![tactic(auto)]
 
 ghost use Rattle.std.specs.Prelude.{◌≡◌, length};
+ghost use Rattle.rules.specs.Devices.{SameLoans};
 ghost use Rattle.rules.specs.Slots.{writing, answer, after};
 ghost use Rattle.record_bank.specs.Records.{bank_slots, record_changed};
 ghost use Rattle.chip_image.specs.Chip.{chip_slots, chip_changed};
@@ -25,7 +26,7 @@ pub const MANGLED: Rule = Rule {
 pub fn write_any<D: SlotDevice>(device: &mut D, slot: u16, rule: Rule) -> Result<(), Refusal>
     ensures answer { result ≡ answer (writing (length (D.SlotDevice.slots device.old)) slot rule) }
     ensures memory { D.SlotDevice.memory device.new ≡ after D.SlotDevice.stored (D.SlotDevice.memory device.old) (writing (length (D.SlotDevice.slots device.old)) slot rule) }
-    ensures same { D.SlotDevice.lenders device.new ≡ D.SlotDevice.lenders device.old }
+    ensures same { SameLoans D.SlotDevice device.old device.new }
 {
     device.write(slot, rule)
 }

@@ -169,7 +169,7 @@ impl Job {
     }
 
     // 1 when the new rule is in force, otherwise 0.
-    // Kept: a rule of this project: what a withdraw answers is a number.
+    // Kept: a bool would be no plainer: this is the number that a withdraw answers.
     pub fn in_force(&self) -> u16
         ensures { result ≡ in_force self.now }
     {

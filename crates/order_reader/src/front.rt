@@ -6,6 +6,7 @@ ghost use Rattle.order_reader.specs.Reading.{Gives, Cuts};
 use orders::{AddOrder, ChangeOrder, DropOrder, LookUpOrder, Order, Part};
 use rules::Refusal;
 
+// Kept: a struct of what is left and its place would be no plainer: it would be a second reader.
 pub(crate) fn first_order<'a>(left: &'a [u8], place: usize) -> Option<Result<Order<'a>, Refusal>>
     ensures { Gives (front left.now) place left.now result }
 {

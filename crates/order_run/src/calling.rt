@@ -18,10 +18,7 @@ fn told(stage: Stage, text: &mut String, head: Head, reply: Reply) -> Stage
     requires { head.letter < 128 }
     ensures { Unless result ((result ≡ stage) × (string_bytes text.new ≡ string_bytes text.old ++ line head.letter head.place (number_told reply) (value_told reply))) }
 {
-    match write_line(text, head, reply) {
-        Ok(()) => stage,
-        Err(_) => Stage::Failed,
-    }
+    write_line(text, head, reply).map_or(Stage::Failed, |()| stage)
 }
 
 impl<'a> OrderCaller<'a> {

@@ -8,6 +8,7 @@ use board::{Answer, Call, Ticket};
 use orders::{AddOrder, Order};
 use rules::Rule;
 
+// Kept: From would be no plainer: it would stand in the crate of orders, which knows no runs, and this clause speaks of one.
 fn new_rule(add: &AddOrder) -> Rule
     ensures { result ≡ rule_in add.now.0.bytes.now }
 {

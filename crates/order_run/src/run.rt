@@ -1,5 +1,6 @@
 // An order file, run on a board over any device.
 ghost use Rattle.std.specs.Prelude.{◌≡◌, None, string_bytes};
+ghost use Rattle.rules.specs.Devices.{SameLoans};
 ghost use Rattle.order_run.specs.Running.{RanOn};
 ghost use Rattle.order_run.specs.Calling.{text_of, Fresh};
 
@@ -47,7 +48,7 @@ pub fn run_orders<D: SlotDevice>(
     input: &[u8],
 ) -> Result<String, AllocError>
     ensures ran { RanOn D.Kind.Kind.meaning D.SlotDevice number input.now string_bytes result device.old device.new }
-    ensures same { D.SlotDevice.lenders device.new ≡ D.SlotDevice.lenders device.old }
+    ensures same { SameLoans D.SlotDevice device.old device.new }
 {
     let mut caller = caller_of(heap, input);
     serve(device, number, &mut caller);

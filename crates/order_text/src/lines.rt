@@ -40,20 +40,24 @@ fn add_line(heap: Global, place: usize, add: &AddOrder) -> Result<String, AllocE
     let number = add.number();
     let priority = add.priority();
     let action = add.action();
-    let words = words_text(heap, add.word_a(), add.word_b())?;
+    let words = Words {
+        a: add.word_a(),
+        b: add.word_b(),
+    };
+    let words = words_text(heap, words)?;
     format!(in heap; "A {place} number {number} priority {priority} action {action} {words}")
 }
 
 // The pattern of a dial rule, or its words where they are not one.
-fn words_text(heap: Global, a: u64, b: u64) -> Result<String, AllocError>
-    ensures { IfOk result (λ text. string_bytes text ≡ words_text a b) }
+fn words_text(heap: Global, words: Words) -> Result<String, AllocError>
+    ensures { IfOk result (λ text. string_bytes text ≡ words_text words.a words.b) }
 {
-    if Dial::well_formed(Words { a, b }) {
-        let signs = dial_signs(heap, a)?;
+    if Dial::well_formed(words) {
+        let signs = dial_signs(heap, words.a)?;
         format!(in heap; "pattern \"{signs}\" well formed")
     } else {
-        let a = hexadecimal(heap, a)?;
-        let b = hexadecimal(heap, b)?;
+        let a = hexadecimal(heap, words.a)?;
+        let b = hexadecimal(heap, words.b)?;
         format!(in heap; "words {a} {b} not well formed")
     }
 }

@@ -11,6 +11,7 @@ pub struct Part<'a, const LENGTH: usize> {
 }
 
 // The longest order is an add, of 27 bytes.
+// Kept: an invariant in place of the `requires` would be no plainer: a part has public fields, so whoever makes one would owe it.
 impl<'a, const LENGTH: usize> Part<'a, LENGTH> {
     pub(crate) fn shown(&self) -> (usize, &'a [u8])
         requires { LENGTH ≤ 27 }

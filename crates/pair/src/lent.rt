@@ -22,6 +22,7 @@ pub fn write_pair<D: SlotDevice, E: SlotDevice<Kind = D::Kind>>(
 }
 
 // The same of an erase.
+// Kept: one function for both would be no plainer, as in `Pair` itself.
 pub fn erase_pair<D: SlotDevice, E: SlotDevice<Kind = D::Kind>>(
     first: &mut D,
     second: &mut E,

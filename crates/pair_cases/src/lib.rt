@@ -2,6 +2,7 @@
 #![tactic(auto)]
 
 ghost use Rattle.std.specs.Prelude.{◌≡◌, length};
+ghost use Rattle.rules.specs.Devices.{SameLoans};
 ghost use Rattle.rules.specs.Slots.{writing, erasing, answer, after};
 ghost use Rattle.record_bank.specs.Records.{bank_slots, record_changed};
 ghost use Rattle.pair.specs.Halves.{writing_of, on_half, on_first, on_second};
@@ -24,8 +25,8 @@ pub fn write_any_pair<D: SlotDevice, E: SlotDevice<Kind = D::Kind>>(
 ) -> Result<(), Refusal>
     ensures answer { result ≡ answer (writing (length (joined (D.SlotDevice.slots first.old) (E.SlotDevice.slots second.old))) slot rule) }
     ensures memory { both_lent (D.SlotDevice.slots first.new) (D.SlotDevice.memory first.new) (E.SlotDevice.memory second.new) ≡ after (both_stored D.SlotDevice.stored E.SlotDevice.stored) (both_lent (D.SlotDevice.slots first.old) (D.SlotDevice.memory first.old) (E.SlotDevice.memory second.old)) (writing (length (joined (D.SlotDevice.slots first.old) (E.SlotDevice.slots second.old))) slot rule) }
-    ensures same { D.SlotDevice.lenders first.new ≡ D.SlotDevice.lenders first.old }
-    ensures same_second { E.SlotDevice.lenders second.new ≡ E.SlotDevice.lenders second.old }
+    ensures same { SameLoans D.SlotDevice first.old first.new }
+    ensures same_second { SameLoans E.SlotDevice second.old second.new }
 {
     let mut pair = Pair { first, second };
     write_any(&mut pair, slot, rule)

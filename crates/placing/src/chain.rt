@@ -27,6 +27,7 @@ impl Chain {
     }
 
     // A slot by its place in the chain; past all places it is 0.
+    // Kept: an Option would be no plainer: the job asks for places within, and would have to give a slot again where there is none.
     pub fn slot(&self, place: u16) -> u16
         ensures { result ≡ slice_index self.now.places place }
     {

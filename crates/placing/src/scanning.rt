@@ -4,7 +4,7 @@ ghost use Rattle.placing.specs.Passing.{FirstPassing, PastLast};
 use crate::reading::slot_at;
 use rules::{Rule, SlotDevice};
 
-// The first slot from `low` on and before `end` that passes.
+// The first slot from `low` on and before `end` that passes. A test that is a function without a `requires` may always be called.
 pub fn first_passing<D: SlotDevice, F: Fn(Option<Rule>) -> bool>(
     device: &D,
     low: u16,

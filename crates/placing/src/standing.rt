@@ -13,9 +13,6 @@ pub fn standing_of<K: Kind>(new: Rule, held: Option<Rule>) -> Option<Ordering>
     ensures level { is_level result ≡ level K.Kind.meaning new held }
 {
     let rule = held?;
-    if new.meets::<K>(rule) {
-        Some(rule.priority.cmp(&new.priority))
-    } else {
-        None
-    }
+    new.meets::<K>(rule)
+        .then(|| rule.priority.cmp(&new.priority))
 }

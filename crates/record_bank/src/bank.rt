@@ -80,7 +80,7 @@ impl<'a> SlotDevice for RecordBank<'a> {
         self.slot_count()
     }
 
-    // Kept: a rule of this project: no public function asks anything of its caller, and a trait under this device and the chip image, with `at` and `carry_out`, would be public.
+    // Kept: a trait under this device and the other would be no plainer: its functions would ask for a slot within, which these few lines see to.
     fn read(&self, slot: u16) -> Result<Option<Rule>, Refusal> {
         if slot >= self.slot_count() {
             return Err(Refusal::OffTheTable);

@@ -11,3 +11,7 @@ pub record CarriesOut {D K : Type 0} (g : Ghosts D K) (outcome : Result Event Re
   pub trace : g.trace behind ≡ after g.traced (g.trace before) outcome
   pub memory : g.memory behind ≡ after g.stored (g.memory before) outcome
   pub same : g.lenders behind ≡ g.lenders before
+
+-- a device over the same loans, so that their lender knows it again
+abbrev pub SameLoans : {D K : Type 0} → Ghosts D K → D → D → Type 0
+SameLoans g before behind = g.lenders behind ≡ g.lenders before

@@ -15,6 +15,7 @@ pub fn slot_matches<K: Kind>(slot: Option<Rule>, subject: u64) -> bool
 }
 
 // What a device does is fixed by its slots, but for the rule of its trace, which is free.
+// Kept: one definition of what write and erase leave would be no plainer here: it is over the members (`CarriesOut`), so it comes after them.
 pub trait SlotDevice {
     // the one kind of rule that the device holds
     type Kind: Kind;
@@ -34,7 +35,7 @@ pub trait SlotDevice {
     ghost stored: { Lent → Event → Lent };
 
     // the ghost names of the loans, by which a lender knows its memory again
-    ghost Lenders: { Type 0 };
+    ghost Lenders: { Type 0 } = { List ℕ };
 
     ghost lenders: { Self → Lenders };
 

@@ -1,6 +1,8 @@
 // Why a call, a device or the order reader refuses.
-ghost use Rattle.std.specs.Prelude.{◌≡◌};
+ghost use Rattle.std.specs.Prelude.{◌≡◌, Some};
 ghost use Rattle.rules.specs.Refusals.{number, word};
+
+use std::fmt;
 
 #[derive(Clone, Copy, PartialEq, Eq, Debug)]
 pub enum Refusal {
@@ -25,11 +27,10 @@ impl Refusal {
     pub fn number(self) -> u8
         ensures { result ≡ number self }
     {
-        // Kept: From<Refusal> for u8 would be no plainer: callers ask a refusal for its number, by that name.
+        // Kept: From<Refusal> for u8 would be no plainer: the number is asked for by that name everywhere.
         self as u8
     }
 
-    // Kept: Display would be no plainer: it writes these words too, and its fmt can promise nothing of their bytes.
     pub fn word(self) -> &'static str
         ensures { result.now ≡ word self }
     {
@@ -49,5 +50,13 @@ impl Refusal {
             Refusal::StrangeLetter => "strange letter",
             Refusal::CutShort => "cut short",
         }
+    }
+}
+
+impl fmt::Display for Refusal {
+    ghost output = { λ refusal. Some (word refusal) };
+
+    fn fmt<W: fmt::Write>(&self, f: &mut fmt::Formatter<W>) -> fmt::Result {
+        f.write_str(self.word())
     }
 }

@@ -6,6 +6,7 @@ use crate::kind::Kind;
 use crate::words::Words;
 
 // Number 0 marks an empty slot. A larger priority wins.
+// Kept: the C interface has a record for each slot, so number 0 stands there for none; `in_slot` tells them apart.
 #[derive(Clone, Copy, PartialEq, Eq, Debug)]
 #[repr(C)]
 pub struct Rule {

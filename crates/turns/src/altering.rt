@@ -1,5 +1,6 @@
 // Drop, change and look-up.
 ghost use Rattle.std.specs.Prelude.{◌≡◌};
+ghost use Rattle.rules.specs.Devices.{SameLoans};
 ghost use Rattle.shifting.specs.Machine.{drop_rule, change_action, look_up, held, with_action, told};
 ghost use Rattle.shifting.specs.Slots.{at, first_match};
 ghost use Rattle.turns.specs.Shown.{Acts, doing, finding, standing};
@@ -27,7 +28,7 @@ pub fn drop_rule<D: SlotDevice>(
     rule: u16,
 ) -> Result<(), Refusal>
     ensures takes { Acts D.Kind.Kind.meaning D.SlotDevice number (drop_rule rule) (doing result) device.old job.now device.new job.now }
-    ensures same { D.SlotDevice.lenders device.new ≡ D.SlotDevice.lenders device.old }
+    ensures same { SameLoans D.SlotDevice device.old device.new }
 {
     job.allows(number, Request::Alter)?;
     let slot = slot_of(device, rule)?;
@@ -56,7 +57,7 @@ pub fn change_rule<D: SlotDevice>(
     action: u32,
 ) -> Result<(), Refusal>
     ensures takes { Acts D.Kind.Kind.meaning D.SlotDevice number (change_action rule action) (doing result) device.old job.now device.new job.now }
-    ensures same { D.SlotDevice.lenders device.new ≡ D.SlotDevice.lenders device.old }
+    ensures same { SameLoans D.SlotDevice device.old device.new }
 {
     job.allows(number, Request::Alter)?;
     let slot = slot_of(device, rule)?;

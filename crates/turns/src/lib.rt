@@ -1,6 +1,6 @@
 // The seven calls of a board, each as one turn of the machine over any slot device. Tickets are here by what they name.
 // Kept: a struct of device, number and job would be no plainer: it would hold two loans, and each contract would say that both stay the same.
-// Kept: a name for what the clauses `same` say would be no plainer: it is one equation of the device's loans, and the name would take as long.
+// Kept: a name for what the clauses `kept` say would be no plainer: std's word with one equation says it.
 #![tactic(auto)]
 
 mod adding;

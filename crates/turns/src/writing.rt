@@ -1,5 +1,6 @@
 // Step, complete and withdraw: the writes of the open add.
 ghost use Rattle.std.specs.Prelude.{◌≡◌, OnErr};
+ghost use Rattle.rules.specs.Devices.{SameLoans};
 ghost use Rattle.shifting.specs.Machine.{step, complete, withdraw};
 ghost use Rattle.job.specs.declared.job.JobEvent.TheVariants.{Wrote};
 ghost use Rattle.job.specs.Jobs.{phase_of, moved};
@@ -39,7 +40,7 @@ pub fn step_add<D: SlotDevice>(
 ) -> Result<u16, Refusal>
     ensures takes { Acts D.Kind.Kind.meaning D.SlotDevice number (step (ticket_of named)) (counting result) device.old job.old device.new job.new }
     ensures kept { OnErr result (job.new ≡ job.old) }
-    ensures same { D.SlotDevice.lenders device.new ≡ D.SlotDevice.lenders device.old }
+    ensures same { SameLoans D.SlotDevice device.old device.new }
 {
     job.allows(number, Request::Step(named))?;
     write_next(device, job);
@@ -55,9 +56,10 @@ pub fn complete_add<D: SlotDevice>(
 ) -> Result<u16, Refusal>
     ensures takes { Acts D.Kind.Kind.meaning D.SlotDevice number (complete (ticket_of named)) (counting result) device.old job.old device.new job.new }
     ensures kept { OnErr result (job.new ≡ job.old) }
-    ensures same { D.SlotDevice.lenders device.new ≡ D.SlotDevice.lenders device.old }
+    ensures same { SameLoans D.SlotDevice device.old device.new }
 {
     job.allows(number, Request::Close(named))?;
+    // Kept: a `for` over the writes left would be no plainer: it would say the number a second time, beside the job that counts them.
     while job.left() > 0 {
         write_next(device, job);
     }
@@ -82,7 +84,7 @@ pub fn withdraw_add<D: SlotDevice>(
 ) -> Result<u16, Refusal>
     ensures takes { Acts D.Kind.Kind.meaning D.SlotDevice number (withdraw (ticket_of named)) (counting result) device.old job.old device.new job.new }
     ensures kept { OnErr result (job.new ≡ job.old) }
-    ensures same { D.SlotDevice.lenders device.new ≡ D.SlotDevice.lenders device.old }
+    ensures same { SameLoans D.SlotDevice device.old device.new }
 {
     job.allows(number, Request::Close(named))?;
     let told = job.in_force();

@@ -339,6 +339,8 @@ module _ {Memory : Type 0} (fixed : Fixed) (stored : Memory → Event → Memory
       (λ state reached shows.
       refused_by fixed stored state call before before refusal shows (turned state ∙ (close_by fixed state before.job state.job named (made fixed state) shows.job).1 refusal not_so) refl refl refl shows.job)
 
+  -- Withdraw.
+
   pub withdraw_done : (before : Seen Memory) (slots : List Slot) (trace : ℕ) (memory : Memory) (job : Job) (named : Named) (told : ℕ) → Ok tt ≡ allowed fixed.board (phase_of before.job) (Close named) before.job
       → told ≡ in_force before.job → slots ≡ all_carried_out before.slots (erased_back before.slots before.job) → trace ≡ all_traced fixed.traced before.trace (erased_back before.slots before.job)
       → memory ≡ all_after stored before.memory (erased_back before.slots before.job)

@@ -62,7 +62,7 @@ cut_stop : (turns place : ℕ) (left : List ℕ) (ending : Ending) → length le
 cut_stop zero place left (Ok tt) few e = refl
 cut_stop zero place left (Err refusal) few e =
     let none : front left ≡ end = front_none left (omega arith) in
-    absurd (let z : ◌≡◌ {A = ℕ} 0 1 = cc in omega arith)
+    cc
 cut_stop (suc turns) place left ending few e =
     let rest : ℕ → Cut = λ n. cut_from turns (place + n) (drop n left) in
     ap (λ found. cut_by found place left rest) e ∙ stop_by ending place left rest

@@ -1,5 +1,5 @@
 -- What stands at the front of a list of bytes, read by places. Assumes nothing.
-use Rattle.std.proofs.Common.{◌≡◌, ℕ, ◌+◌, ◌≤◌, Bool, cond, ◌&&◌, eqb, leb, List, [], ◌∷◌, length, ap, subst, arith}
+use Rattle.std.proofs.Common.{◌≡◌, ℕ, ◌+◌, ◌≤◌, ◌&&◌, eqb, leb, List, [], ◌∷◌, length, ap, subst, arith}
 use Rattle.std.proofs.lemmas.Bool.{le-leb, leb-true, cond-true, cond_both}
 use Rattle.std.proofs.lemmas.List.{nil_from_length}
 use Rattle.rules.specs.declared.refusal.Refusal.TheVariants.{CutShort}
@@ -17,9 +17,6 @@ Fits most end = Unit {0}
 Fits most (whole size) = (3 ≤ size) × (size ≤ most)
 Fits most (damaged refusal) = Unit {0}
 
-either : (P : Front → Type 0) (b : Bool) (x y : Front) → P x → P y → P (cond b x y)
-either P b x y p q = cond_both b x y P (λ _. p) (λ _. q)
-
 body_fits : (body left : ℕ) → Fits (3 + left) (with_body body left)
 body_fits body left =
     cond_both (leb body left) (whole (3 + body)) (damaged CutShort) (Fits (3 + left)) (λ e. let h = leb-true body left e in (omega arith, omega arith)) (λ e. tt)
@@ -27,13 +24,13 @@ body_fits body left =
 letter_fits : (letter left : ℕ) → Fits (3 + left) (lettered letter left)
 letter_fits letter left =
     let P = Fits (3 + left) in
-    either P (eqb letter 0x41) _ _ (body_fits 24 left)
-    (either P (eqb letter 0x44) _ _ (body_fits 2 left)
-    (either P (eqb letter 0x43) _ _ (body_fits 6 left)
-    (either P (eqb letter 0x4C) _ _ (body_fits 8 left)
-    (either P (eqb letter 0x53) _ _ (body_fits 0 left)
-    (either P (eqb letter 0x45) _ _ (body_fits 0 left)
-    (either P (eqb letter 0x57) _ _ (body_fits 0 left) tt))))))
+    cond_both (eqb letter 0x41) _ _ P (λ _. body_fits 24 left)
+    (λ _. cond_both (eqb letter 0x44) _ _ P (λ _. body_fits 2 left)
+    (λ _. cond_both (eqb letter 0x43) _ _ P (λ _. body_fits 6 left)
+    (λ _. cond_both (eqb letter 0x4C) _ _ P (λ _. body_fits 8 left)
+    (λ _. cond_both (eqb letter 0x53) _ _ P (λ _. body_fits 0 left)
+    (λ _. cond_both (eqb letter 0x45) _ _ P (λ _. body_fits 0 left)
+    (λ _. cond_both (eqb letter 0x57) _ _ P (λ _. body_fits 0 left) (λ _. tt)))))))
 
 pub front_fits : (left : List ℕ) → Fits (length left) (front left)
 front_fits [] = tt
@@ -42,7 +39,7 @@ front_fits (a ∷ b ∷ []) = tt
 front_fits (a ∷ b ∷ letter ∷ body) =
     let size : 3 + length body ≡ length (a ∷ b ∷ letter ∷ body) = omega arith in
     subst (λ n. Fits n (front (a ∷ b ∷ letter ∷ body))) size
-    (either (Fits (3 + length body)) (eqb a 0x4B && eqb b 0x54) _ _ (letter_fits letter (length body)) tt)
+    (cond_both (eqb a 0x4B && eqb b 0x54) _ _ (Fits (3 + length body)) (λ _. letter_fits letter (length body)) (λ _. tt))
 
 pub whole_fits : (left : List ℕ) (size : ℕ) → front left ≡ whole size → (3 ≤ size) × (size ≤ length left)
 whole_fits left size e = subst (Fits (length left)) e (front_fits left)

@@ -1,5 +1,5 @@
 -- The ticket in hand, from a call to its answer. Assumes nothing.
-use Rattle.std.proofs.Common.{◌≡◌, ℕ, ◌<◌, ◌≤◌, Some, None, Option, sym, refl, ap, ◌∙◌, subst, arith}
+use Rattle.std.proofs.Common.{◌≡◌, ◌<◌, ◌≤◌, Some, None, Option, sym, refl, ap, ◌∙◌, subst, arith}
 use Rattle.shifting.specs.Machine.{Ticket, Call, add, step, complete, withdraw, drop_rule, change_action, look_up, Answer}
 use Rattle.board.specs.declared.ticket.Ticket.{Ticket as RealTicket}
 use Rattle.board.specs.declared.calls.Call.{Call as RealCall}
@@ -16,13 +16,6 @@ use Rattle.shifting.proofs.Serving.{after_push}
 use Rattle.order_run.proofs.Tickets.{Opens, opens, good_after, withdrawn}
 use Rattle.board.specs.Serving.{Past, state_of, answer_to, one_more, Answers}
 
-abbrev is_some : {T : Type 0} → Option T → ℕ
-is_some None = 0
-is_some (Some one) = 1
-
-never : {T : Type 0} {P : Type 0} (one : T) → None ≡ Some one → P
-never one e = absurd (let z : ◌≡◌ {A = ℕ} 0 1 = ap is_some e in omega arith)
-
 -- the answer to a call leaves room for the ticket that it brings, and what is then in hand is as the machine has it
 abbrev pub Keeps : Call → RealAnswer → Option RealTicket → Type 0
 Keeps call answer hand = Room answer hand × (named (kept answer hand) ≡ ticket_after (named hand) call (answer_of answer))
@@ -32,54 +25,54 @@ empty_hand hand e = ap named e
 
 pub keeps : (call : Call) (answer : RealAnswer) (hand : Option RealTicket) → Free call hand → Opens call hand (answer_of answer) → returned answer ≡ goes_back call (answer_of answer) → Keeps call answer hand
 keeps (add new) (Opened ticket) hand free opens back = (opens, refl)
-keeps (add new) (Stepped left ticket) hand free opens back = never _ (sym back)
+keeps (add new) (Stepped left ticket) hand free opens back = cc
 keeps (add new) (Closed count) hand free opens back = (tt, refl)
 keeps (add new) Done hand free opens back = (tt, refl)
 keeps (add new) (Found told) hand free opens back = (tt, refl)
 keeps (add new) (Refused refusal) hand free opens back = (tt, refl)
-keeps (add new) (HandedBack refusal ticket) hand free opens back = never _ (sym back)
+keeps (add new) (HandedBack refusal ticket) hand free opens back = cc
 keeps (step one) (Opened ticket) hand free opens back = absurd opens
 keeps (step one) (Stepped left ticket) hand free opens back = (free, back)
-keeps (step one) (Closed count) hand free opens back = never _ back
-keeps (step one) Done hand free opens back = never _ back
-keeps (step one) (Found told) hand free opens back = never _ back
-keeps (step one) (Refused refusal) hand free opens back = never _ back
+keeps (step one) (Closed count) hand free opens back = cc
+keeps (step one) Done hand free opens back = cc
+keeps (step one) (Found told) hand free opens back = cc
+keeps (step one) (Refused refusal) hand free opens back = cc
 keeps (step one) (HandedBack refusal ticket) hand free opens back = (free, back)
 keeps (complete one) (Opened ticket) hand free opens back = absurd opens
-keeps (complete one) (Stepped left ticket) hand free opens back = never _ (sym back)
+keeps (complete one) (Stepped left ticket) hand free opens back = cc
 keeps (complete one) (Closed count) hand free opens back = (tt, empty_hand hand free)
 keeps (complete one) Done hand free opens back = (tt, empty_hand hand free)
 keeps (complete one) (Found told) hand free opens back = (tt, empty_hand hand free)
-keeps (complete one) (Refused refusal) hand free opens back = never _ back
+keeps (complete one) (Refused refusal) hand free opens back = cc
 keeps (complete one) (HandedBack refusal ticket) hand free opens back = (free, back)
 keeps (withdraw one) (Opened ticket) hand free opens back = absurd opens
-keeps (withdraw one) (Stepped left ticket) hand free opens back = never _ (sym back)
+keeps (withdraw one) (Stepped left ticket) hand free opens back = cc
 keeps (withdraw one) (Closed count) hand free opens back = (tt, empty_hand hand free)
 keeps (withdraw one) Done hand free opens back = (tt, empty_hand hand free)
 keeps (withdraw one) (Found told) hand free opens back = (tt, empty_hand hand free)
-keeps (withdraw one) (Refused refusal) hand free opens back = never _ back
+keeps (withdraw one) (Refused refusal) hand free opens back = cc
 keeps (withdraw one) (HandedBack refusal ticket) hand free opens back = (free, back)
 keeps (drop_rule rule) (Opened ticket) hand free opens back = absurd opens
-keeps (drop_rule rule) (Stepped left ticket) hand free opens back = never _ (sym back)
+keeps (drop_rule rule) (Stepped left ticket) hand free opens back = cc
 keeps (drop_rule rule) (Closed count) hand free opens back = (tt, refl)
 keeps (drop_rule rule) Done hand free opens back = (tt, refl)
 keeps (drop_rule rule) (Found told) hand free opens back = (tt, refl)
 keeps (drop_rule rule) (Refused refusal) hand free opens back = (tt, refl)
-keeps (drop_rule rule) (HandedBack refusal ticket) hand free opens back = never _ (sym back)
+keeps (drop_rule rule) (HandedBack refusal ticket) hand free opens back = cc
 keeps (change_action rule action) (Opened ticket) hand free opens back = absurd opens
-keeps (change_action rule action) (Stepped left ticket) hand free opens back = never _ (sym back)
+keeps (change_action rule action) (Stepped left ticket) hand free opens back = cc
 keeps (change_action rule action) (Closed count) hand free opens back = (tt, refl)
 keeps (change_action rule action) Done hand free opens back = (tt, refl)
 keeps (change_action rule action) (Found told) hand free opens back = (tt, refl)
 keeps (change_action rule action) (Refused refusal) hand free opens back = (tt, refl)
-keeps (change_action rule action) (HandedBack refusal ticket) hand free opens back = never _ (sym back)
+keeps (change_action rule action) (HandedBack refusal ticket) hand free opens back = cc
 keeps (look_up subject) (Opened ticket) hand free opens back = absurd opens
-keeps (look_up subject) (Stepped left ticket) hand free opens back = never _ (sym back)
+keeps (look_up subject) (Stepped left ticket) hand free opens back = cc
 keeps (look_up subject) (Closed count) hand free opens back = (tt, refl)
 keeps (look_up subject) Done hand free opens back = (tt, refl)
 keeps (look_up subject) (Found told) hand free opens back = (tt, refl)
 keeps (look_up subject) (Refused refusal) hand free opens back = (tt, refl)
-keeps (look_up subject) (HandedBack refusal ticket) hand free opens back = never _ (sym back)
+keeps (look_up subject) (HandedBack refusal ticket) hand free opens back = cc
 
 -- A ticket in hand is at most one.
 
@@ -109,7 +102,7 @@ letter_small (orders.Withdraw part) = omega arith
 -- nothing in hand
 pub named_none : (hand : Option RealTicket) → named hand ≡ None → hand ≡ None
 named_none None e = refl
-named_none (Some ticket) e = never _ (sym e)
+named_none (Some ticket) e = cc
 
 -- An answer is heard.
 

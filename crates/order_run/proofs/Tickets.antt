@@ -1,5 +1,5 @@
 -- A ticket that names the open add goes on to name it until it is given back. Assumes nothing.
-use Rattle.std.proofs.Common.{◌≡◌, suc, Bool, true, cond, not, ◌||◌, eqb, ltb, length, Some, None, Option, sym, refl, subst}
+use Rattle.std.proofs.Common.{◌≡◌, suc, true, cond, not, ◌||◌, eqb, ltb, length, Some, None, Option, sym, refl, subst}
 use Rattle.std.proofs.lemmas.Bool.{cond-true, cond_both, eq-eqb, and_from}
 use Rattle.rules.specs.declared.rule.Rule.{Rule}
 use Rattle.rules.specs.declared.refusal.Refusal.TheVariants.{Busy, RunOut, Foreign, Unknown}
@@ -9,9 +9,6 @@ use Rattle.order_run.specs.Running.{ticket_after, opened_or}
 use Rattle.board.specs.Calls.{on_refusal}
 use Rattle.order_run.specs.Calling.{Good, held_with, named}
 use Rattle.board.specs.declared.ticket.Ticket.{Ticket as RealTicket}
-
-either : (P : Turn → Type 0) (b : Bool) (x y : Turn) → P x → P y → P (cond b x y)
-either P b x y p q = cond_both b x y P (λ _. p) (λ _. q)
 
 -- only an add opens a ticket, and only where none is in hand
 abbrev pub Opens : {T : Type 0} → Call → Option T → Answer → Type 0
@@ -48,7 +45,7 @@ module _ (fixed : Fixed) (state : State) where
 
   named_or_not : (P : Turn → Type 0) (ticket : Ticket) (o : Option Job) (made : Job → Turn) → ((job : Job) → P (made job)) → P (refuse fixed state Foreign) → P (when_named fixed state ticket o made)
   named_or_not P ticket None made p q = q
-  named_or_not P ticket (Some job) made p q = either P (names fixed state ticket job) (made job) (refuse fixed state Foreign) (p job) q
+  named_or_not P ticket (Some job) made p q = cond_both (names fixed state ticket job) (made job) (refuse fixed state Foreign) P (λ _. p job) (λ _. q)
 
   -- a turn that leaves the ticket good
   abbrev Leaves : Ticket → Turn → Type 0
@@ -63,17 +60,17 @@ module _ (fixed : Fixed) (state : State) where
   good_after (add new) None good =
       let P : Turn → Type 0 = λ made. Good fixed made.next (opened_or None made.answer) in
       idle_or_not P state.job (try_add fixed state new)
-      (either P (eqb new.number 0 || not (fixed.kind.well_formed new.word_a new.word_b)) _ _ tt
-      (either P (number_in new.number state.rules) _ _ tt
-      (either P (tied fixed.kind state.slots new) _ _ tt
-      (either P (crossed fixed.kind state.slots new) _ _ tt
-      (either P (no_slot fixed.kind state.slots new) _ _ tt (opened_good new))))))
+      (cond_both (eqb new.number 0 || not (fixed.kind.well_formed new.word_a new.word_b)) _ _ P (λ _. tt)
+      (λ _. cond_both (number_in new.number state.rules) _ _ P (λ _. tt)
+      (λ _. cond_both (tied fixed.kind state.slots new) _ _ P (λ _. tt)
+      (λ _. cond_both (crossed fixed.kind state.slots new) _ _ P (λ _. tt)
+      (λ _. cond_both (no_slot fixed.kind state.slots new) _ _ P (λ _. tt) (λ _. opened_good new))))))
       tt
   good_after (add new) (Some ticket) (job, under, good) =
       busy (λ made. Good fixed made.next (opened_or (Some ticket) made.answer)) job (try_add fixed state new) under (job, under, good)
   good_after (step ticket) hand (job, under, good) =
       named_one (Leaves ticket) ticket job (λ one. cond (written one) (refuse fixed state RunOut) (make_one fixed state one)) under good
-      (either (Leaves ticket) (written job) _ _ (job, under, good) (record { rule = job.rule; chain = job.chain; made = suc job.made }, refl, good))
+      (cond_both (written job) _ _ (Leaves ticket) (λ _. (job, under, good)) (λ _. (record { rule = job.rule; chain = job.chain; made = suc job.made }, refl, good)))
   good_after (complete ticket) hand (job, under, good) =
       named_one (λ made. Good fixed made.next (on_refusal ticket made.answer)) ticket job (make_all fixed state) under good tt
   good_after (withdraw ticket) hand (job, under, good) =
@@ -86,7 +83,7 @@ module _ (fixed : Fixed) (state : State) where
       busy (Leaves ticket) job (when_standing fixed state rule (rewrite_rule fixed state rule action)) under (job, under, good)
   good_after (look_up subject) None good = tt
   good_after (look_up subject) (Some ticket) (job, under, good) =
-      either (Leaves ticket) (fixed.kind.well_formed_subject subject) _ _ (job, under, good) (job, under, good)
+      cond_both (fixed.kind.well_formed_subject subject) _ _ (Leaves ticket) (λ _. (job, under, good)) (λ _. (job, under, good))
 
   -- a withdraw of a good ticket is not refused
   pub withdrawn : (ticket : Ticket) → Good fixed state (Some ticket) → on_refusal ticket (turn fixed state (withdraw ticket)).answer ≡ None
@@ -99,16 +96,16 @@ module _ (fixed : Fixed) (state : State) where
   opens (step ticket) hand good =
       let P : Turn → Type 0 = λ made. Opens (step ticket) hand made.answer in
       named_or_not P ticket state.job (λ one. cond (written one) (refuse fixed state RunOut) (make_one fixed state one))
-      (λ job. either P (written job) (refuse fixed state RunOut) (make_one fixed state job) tt tt) tt
+      (λ job. cond_both (written job) (refuse fixed state RunOut) (make_one fixed state job) P (λ _. tt) (λ _. tt)) tt
   opens (complete ticket) hand good = named_or_not (λ made. Opens (complete ticket) hand made.answer) ticket state.job (make_all fixed state) (λ _. tt) tt
   opens (withdraw ticket) hand good = named_or_not (λ made. Opens (withdraw ticket) hand made.answer) ticket state.job (take_back fixed state) (λ _. tt) tt
   opens (drop_rule rule) hand good =
       let P : Turn → Type 0 = λ made. Opens (drop_rule rule) hand made.answer in
       idle_or_not P state.job (when_standing fixed state rule (erase_rule fixed state rule))
-      (either P (eqb rule 0 || not (ltb (place fixed state rule) (length state.slots))) (refuse fixed state Unknown) (erase_rule fixed state rule) tt tt) tt
+      (cond_both (eqb rule 0 || not (ltb (place fixed state rule) (length state.slots))) (refuse fixed state Unknown) (erase_rule fixed state rule) P (λ _. tt) (λ _. tt)) tt
   opens (change_action rule action) hand good =
       let P : Turn → Type 0 = λ made. Opens (change_action rule action) hand made.answer in
       idle_or_not P state.job (when_standing fixed state rule (rewrite_rule fixed state rule action))
-      (either P (eqb rule 0 || not (ltb (place fixed state rule) (length state.slots))) (refuse fixed state Unknown) (rewrite_rule fixed state rule action) tt tt) tt
+      (cond_both (eqb rule 0 || not (ltb (place fixed state rule) (length state.slots))) (refuse fixed state Unknown) (rewrite_rule fixed state rule action) P (λ _. tt) (λ _. tt)) tt
   opens (look_up subject) hand good =
-      either (λ made. Opens (look_up subject) hand made.answer) (fixed.kind.well_formed_subject subject) _ _ tt tt
+      cond_both (fixed.kind.well_formed_subject subject) _ _ (λ (made : Turn). Opens (look_up subject) hand made.answer) (λ _. tt) (λ _. tt)

@@ -1,5 +1,5 @@
 -- The walk along an order file, from order to order and from call to answer. Assumes nothing.
-use Rattle.std.proofs.Common.{◌≡◌, ℕ, suc, ◌+◌, ◌-◌, ◌*◌, ◌<◌, ◌≤◌, Bool, cond, eqb, List, [], ◌∷◌, ◌++◌, length, drop, Some, None, Option, sym, refl, ap, ◌∙◌, subst, arith}
+use Rattle.std.proofs.Common.{◌≡◌, ℕ, suc, ◌+◌, ◌-◌, ◌*◌, ◌<◌, ◌≤◌, eqb, List, [], ◌∷◌, ◌++◌, length, drop, Some, None, Option, sym, refl, ap, ◌∙◌, subst, arith}
 use Rattle.std.proofs.lemmas.List.{append-nil, length-drop}
 use Rattle.std.proofs.lemmas.Bool.{cond_both}
 use Rattle.rules.specs.declared.refusal.Refusal.TheVariants.{Foreign}
@@ -52,18 +52,15 @@ withdraw_brings : (held : Option Ticket) → Brings held (with_ticket withdraw h
 withdraw_brings None = tt
 withdraw_brings (Some ticket) = refl
 
-either : (P : Option Call → Type 0) (b : Bool) (x y : Option Call) → P x → P y → P (cond b x y)
-either P b x y p q = cond_both b x y P (λ _. p) (λ _. q)
-
 brings : (order : Entry) (held : Option Ticket) → Brings held (call_in order held)
 brings order held =
     let P = Brings held in
-    either P (eqb order.letter 0x41) _ _ tt
-    (either P (eqb order.letter 0x44) _ _ tt
-    (either P (eqb order.letter 0x43) _ _ tt
-    (either P (eqb order.letter 0x4C) _ _ tt
-    (either P (eqb order.letter 0x53) _ _ (step_brings held)
-    (either P (eqb order.letter 0x45) _ _ (complete_brings held) (withdraw_brings held))))))
+    cond_both (eqb order.letter 0x41) _ _ P (λ _. tt)
+    (λ _. cond_both (eqb order.letter 0x44) _ _ P (λ _. tt)
+    (λ _. cond_both (eqb order.letter 0x43) _ _ P (λ _. tt)
+    (λ _. cond_both (eqb order.letter 0x4C) _ _ P (λ _. tt)
+    (λ _. cond_both (eqb order.letter 0x53) _ _ P (λ _. step_brings held)
+    (λ _. cond_both (eqb order.letter 0x45) _ _ P (λ _. complete_brings held) (λ _. withdraw_brings held))))))
 
 -- what is left in hand
 pub record Asked (before : Past) (hand hand' : Option RealTicket) (call : Call) : Type 0 where

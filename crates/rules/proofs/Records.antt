@@ -25,7 +25,7 @@ records_lawful slots held few stands = record {
   few = few;
   numbered = λ slot rule taken none.
       ⊎_elim (λ below. in_slot_numbered (held slot) rule (sym (stands slot below) ∙ taken) none)
-      (λ past. let empty = get_or_past slots slot None past in let both : ◌≡◌ {A = ℕ} 0 1 = cc in omega arith)
+      (λ past. let empty = get_or_past slots slot None past in cc)
       (cases_lt slot (length slots));
 }
 

@@ -2,7 +2,16 @@
 use Rattle.std.proofs.Common.{◌≡◌, ℕ, zero, suc, ◌<◌, ◌≤◌, Bool, true, false, List, [], ◌∷◌, length, get_or, Some, None, Option, subst, arith}
 use Rattle.std.proofs.lemmas.Bool.Decides.{nat_tests}
 use Rattle.std.proofs.lemmas.Grind.{common_steps}
+use Rattle.std.proofs.lemmas.Iterator.{first_from_Range}
 use Rattle.std.specs.Option.{MatchOption}
+use Rattle.std.specs.Bool.{⊤}
+use Rattle.std.specs.Iterator.{YieldsThen}
+use Rattle.std.specs.List.{FoldsTo}
+use Rattle.std.specs.Fn.{CalledAt}
+use Rattle.std.proofs.iter.Yields.{nat_range_steps}
+use Rattle.std.specs.declared.ops.Range.{Range}
+use denote.Ref.{Bor}
+use denote.Param.Members.{Mut}
 use Rattle.rules.specs.Slots.{first_place, place_within}
 
 module _ {X : Type 0} (passes : X → Bool) (d : X) where
@@ -33,5 +42,11 @@ module _ {X : Type 0} (passes : X → Bool) (d : X) where
   from_first xs None failing = grind (arith, common_steps, nat_tests, none_first xs failing)
   from_first xs (Some place) is = grind (arith, common_steps, nat_tests, found_first xs place is.1 is.2 is.3)
 
-  pub first_found : (xs : List X) (start : ℕ) (found : Option ℕ) → Found xs start found → start ≡ 0 → found ≡ place_within (length xs) (first_place passes xs)
-  first_found xs start found is start-is = from_first xs found (subst (λ s. Found xs s found) start-is is)
+  -- a `find` over a range of the list's places, by what its closure answers
+  pub first_in_range : {F : Type 0} {g : Mut F (Bor ℕ × Unit {0}) Bool} (xs : List X) (range left : Range ℕ) (f : F) (found : Option ℕ)
+      → (places : List ℕ) × (j : F) × YieldsThen nat_range_steps range places found left × FoldsTo (λ p place q. CalledAt g p place false q) f places j × MatchOption found ⊤ (λ place. (h : F) × CalledAt g j place true h)
+      → ((place : ℕ) (q : F) → CalledAt g f place true q → passes (get_or xs place d) ≡ true) → ((place : ℕ) (q : F) → CalledAt g f place false q → (q ≡ f) × (passes (get_or xs place d) ≡ false))
+      → range.end ≡ length xs → range.start ≡ 0 → found ≡ place_within (length xs) (first_place passes xs)
+  first_in_range xs range left f found ran passing failing end-is start-is =
+      let ended = first_from_Range range left f found (λ place. passes (get_or xs place d) ≡ true) (λ place. passes (get_or xs place d) ≡ false) ran passing failing in
+      from_first xs found (subst (λ s. Found xs s found) start-is (rw (← end-is) ended))

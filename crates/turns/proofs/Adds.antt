@@ -1,6 +1,7 @@
 -- An add on a board is an add of the machine. Assumes nothing.
 use Rattle.std.proofs.Common.{◌≡◌, ℕ, Bool, true, false, cond, not, ◌||◌, eqb, List, [], length, take, None, Ok, Err, Option, Result, sym, refl, ap, ◌∙◌, subst, arith}
 use Rattle.std.proofs.lemmas.Bool.{eq-eqb}
+use Rattle.std.specs.Cmp.{both_ways}
 use Rattle.rules.specs.declared.rule.Rule.{Rule}
 use Rattle.rules.specs.declared.event.Event.{Event}
 use Rattle.rules.specs.declared.refusal.Refusal.{Refusal}
@@ -26,14 +27,11 @@ use Rattle.turns.proofs.Turned.{by, reached_sound, shown_by, refused_by, alter_b
 
 -- while no add is open, the numbers in the slots are those of the rules in force
 
-same_bools : (a b : Bool) → (a ≡ true → b ≡ true) → (b ≡ true → a ≡ true) → a ≡ b
-same_bools a b to from = grind arith
-
 numbers_same : (kind : KindMeaning) (slots : List Slot) (rules : List Rule) (number : ℕ) → Settled kind slots rules
     → number_in number rules ≡ some_below (λ i. has_number number (at slots i)) (length slots)
 numbers_same kind slots rules number settled =
     let holds = λ (i : ℕ). has_number number (at slots i) in
-    same_bools (number_in number rules) (some_below holds (length slots))
+    both_ways (number_in number rules) (some_below holds (length slots))
     (λ is.
     let found = number_rule number rules is in
     let stand = settled.stocked.stands found.0 found.1 in

@@ -12,7 +12,7 @@ use Rattle.rules.specs.Slots.{writing, erasing, answer, carried_out, first_place
 use Rattle.rules.specs.Slots.{after as left_after, first_match as device-match}
 use Rattle.shifting.specs.Chains.{scan}
 use Rattle.shifting.specs.Slots.{Slot, at, first_match, slot_matches}
-use Rattle.shifting.specs.Machine.{drop_rule, change_action, look_up, done, found, told, State, Fixed, Turn, held, has_number, with_action, refuse, place, when_standing, erase_rule, rewrite_rule}
+use Rattle.shifting.specs.Machine.{Call, drop_rule, change_action, look_up, done, found, told, State, Fixed, Turn, turn, held, has_number, with_action, refuse, place, when_idle, when_standing, erase_rule, rewrite_rule}
 use Rattle.shifting.proofs.Scans.{scan_hit}
 use Rattle.job.specs.declared.job.Job.{Job}
 use Rattle.job.specs.declared.job.Request.TheVariants.{Alter}
@@ -55,34 +55,23 @@ held_number (Some rule) number is = grind arith
 
 module _ {Memory : Type 0} (fixed : Fixed) (stored : Memory → Event → Memory) (slots : List Slot) (trace : ℕ) (memory : Memory) (job : Job) (idle : Ok tt ≡ allowed fixed.board (phase_of job) Alter job) where
   altered : (state : State) (made : Turn) (number : ℕ) → Shows (seen slots trace memory job) state
-      → by fixed state (allowed fixed.board (phase_of job) Alter job) (when_standing fixed state number made) ≡ cond (absent slots number) (refuse fixed state Unknown) made
+      → when_idle fixed state state.job (when_standing fixed state number made) ≡ cond (absent slots number) (refuse fixed state Unknown) made
   altered state made number shows =
-      ap (λ (r : Result (Unit {0}) Refusal). by fixed state r (when_standing fixed state number made)) (sym idle)
+      alter_by fixed state job state.job (when_standing fixed state number made) shows.job
+      ∙ ap (λ (r : Result (Unit {0}) Refusal). by fixed state r (when_standing fixed state number made)) (sym idle)
       ∙ ap (λ (s : List Slot). cond (absent s number) (refuse fixed state Unknown) made) (sym shows.slots)
 
   none_open : (state : State) → Shows (seen slots trace memory job) state → ShowsJob job None
   none_open state shows = subst (ShowsJob job) (alter_idle fixed state job state.job shows.job idle) shows.job
 
-  module _ (number : ℕ) (refusal : Refusal) (gone : Err refusal ≡ standing slots number) where
-    pub drop_unknown : Takes fixed stored (drop_rule number) (doing (Err refusal)) (seen slots trace memory job) (seen slots trace memory job)
-    drop_unknown state reached shows =
-        let unknown = unknown_absent slots number refusal gone in
-        refused_by fixed stored state (drop_rule number) (seen slots trace memory job) (seen slots trace memory job) refusal shows
-        (alter_by fixed state job state.job (when_standing fixed state number (erase_rule fixed state number)) shows.job
-        ∙ altered state (erase_rule fixed state number) number shows
-        ∙ cond-true (absent slots number) (refuse fixed state Unknown) (erase_rule fixed state number) unknown.0
-        ∙ ap (refuse fixed state) (sym unknown.1))
-        refl refl refl shows.job
-
-    pub change_unknown : (action : ℕ) → Takes fixed stored (change_action number action) (doing (Err refusal)) (seen slots trace memory job) (seen slots trace memory job)
-    change_unknown action state reached shows =
-        let unknown = unknown_absent slots number refusal gone in
-        refused_by fixed stored state (change_action number action) (seen slots trace memory job) (seen slots trace memory job) refusal shows
-        (alter_by fixed state job state.job (when_standing fixed state number (rewrite_rule fixed state number action)) shows.job
-        ∙ altered state (rewrite_rule fixed state number action) number shows
-        ∙ cond-true (absent slots number) (refuse fixed state Unknown) (rewrite_rule fixed state number action) unknown.0
-        ∙ ap (refuse fixed state) (sym unknown.1))
-        refl refl refl shows.job
+  -- a drop or a change of a number that stands nowhere
+  pub unknown_refused : (call : Call) (made : Fixed → State → Turn) (number : ℕ) (refusal : Refusal) → ((state : State) → turn fixed state call ≡ when_idle fixed state state.job (when_standing fixed state number (made fixed state)))
+      → Err refusal ≡ standing slots number → Takes fixed stored call (doing (Err refusal)) (seen slots trace memory job) (seen slots trace memory job)
+  unknown_refused call made number refusal turned gone state reached shows =
+      let unknown = unknown_absent slots number refusal gone in
+      refused_by fixed stored state call (seen slots trace memory job) (seen slots trace memory job) refusal shows
+      (turned state ∙ altered state (made fixed state) number shows ∙ cond-true (absent slots number) (refuse fixed state Unknown) (made fixed state) unknown.0 ∙ ap (refuse fixed state) (sym unknown.1))
+      refl refl refl shows.job
 
   module _ (number slot : ℕ) (r : Result (Unit {0}) Refusal) (slots' : List Slot) (trace' : ℕ) (memory' : Memory) (standing-is : Ok slot ≡ standing slots number) where
     pub drop_done : r ≡ answer (erasing (length slots) slot) → slots' ≡ left_after carried_out slots (erasing (length slots) slot) → trace' ≡ left_after fixed.traced trace (erasing (length slots) slot)
@@ -93,8 +82,7 @@ module _ {Memory : Type 0} (fixed : Fixed) (stored : Memory → Event → Memory
         let ok = erasing_ok (length slots) slot stands.within in
         let same : slot ≡ place fixed state number = stands.slot_is ∙ ap (λ (s : List Slot). stands_at s number) shows.slots in
         shown_by fixed stored state (drop_rule number) (seen slots trace memory job) (seen slots' trace' memory' job) (doing r) done (Erase (place fixed state number) ∷ []) _ None shows
-        (alter_by fixed state job state.job (when_standing fixed state number (erase_rule fixed state number)) shows.job
-        ∙ altered state (erase_rule fixed state number) number shows
+        (altered state (erase_rule fixed state number) number shows
         ∙ cond-false (absent slots number) (refuse fixed state Unknown) (erase_rule fixed state number) stands.here)
         (ap doing (r-is ∙ ap answer ok))
         (slots_are ∙ ap (left_after carried_out slots) ok ∙ ap (λ (n : ℕ). set slots n None) same)
@@ -117,8 +105,7 @@ module _ {Memory : Type 0} (fixed : Fixed) (stored : Memory → Event → Memory
         let event = λ (s : List Slot) (n : ℕ). Write n (with_action action (held (at s n))) in
         let event-is : event slots slot ≡ event state.slots (place fixed state number) = ap (event slots) same ∙ ap (λ (s : List Slot). event s (place fixed state number)) shows.slots in
         shown_by fixed stored state (change_action number action) (seen slots trace memory job) (seen slots' trace' memory' job) (doing r) done (event state.slots (place fixed state number) ∷ []) _ None shows
-        (alter_by fixed state job state.job (when_standing fixed state number (rewrite_rule fixed state number action)) shows.job
-        ∙ altered state (rewrite_rule fixed state number action) number shows
+        (altered state (rewrite_rule fixed state number action) number shows
         ∙ cond-false (absent slots number) (refuse fixed state Unknown) (rewrite_rule fixed state number action) stands.here)
         (ap doing (r-is ∙ ap answer ok))
         (slots_are ∙ ap (left_after carried_out slots) ok ∙ ap (carried_out slots) event-is)

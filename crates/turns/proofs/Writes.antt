@@ -1,5 +1,5 @@
 -- The writes of an open add on a board are those of the machine. Assumes nothing.
-use Rattle.std.proofs.Common.{◌≡◌, ℕ, suc, ◌+◌, ◌-◌, ◌<◌, ◌≤◌, Bool, true, cond, ltb, ◌≢◌, List, [], ◌∷◌, reverse, length, get_or, take, drop, set, Some, None, Ok, Err, Option, sym, refl, ap, ◌∙◌, subst, ⊎_elim, add-one, arith}
+use Rattle.std.proofs.Common.{◌≡◌, ℕ, suc, ◌+◌, ◌-◌, ◌<◌, ◌≤◌, Bool, true, cond, ltb, ◌≢◌, List, [], ◌∷◌, reverse, length, get_or, take, drop, set, IsErrAnd, Some, None, Ok, Err, Option, Result, sym, refl, ap, ◌∙◌, subst, ⊎_elim, add-one, arith}
 use Rattle.std.proofs.lemmas.List.{get_or-take, get_or-reverse, drop_more, drop_all, length-reverse, length-set}
 use Rattle.std.proofs.lemmas.Bool.{cases_Bool, cond-true, cond-false, ltb-true, ltb-false, eq-eqb, ne_eqb, and_parts}
 use Rattle.rules.specs.declared.rule.Rule.{Rule}
@@ -10,7 +10,7 @@ use Rattle.rules.specs.declared.refusal.Refusal.TheVariants.{RunOut}
 use Rattle.rules.specs.Kinds.{KindLaws}
 use Rattle.rules.specs.Slots.{writing, erasing, all_after}
 use Rattle.shifting.specs.Slots.{Slot, at, all_carried_out}
-use Rattle.shifting.specs.Machine.{step, complete, withdraw, counted, State, Fixed, Turn, held, received, writes, unwritten, written, half_way, last_written, all_traced, names, refuse, make_one, make_all, take_back, turn}
+use Rattle.shifting.specs.Machine.{Call, step, complete, withdraw, counted, State, Fixed, Turn, held, received, writes, unwritten, written, half_way, last_written, all_traced, names, when_named, refuse, make_one, make_all, take_back, turn}
 use Rattle.shifting.specs.Machine.{Job as OpenAdd}
 use Rattle.shifting.proofs.Directions.{down}
 use Rattle.shifting.proofs.Reading.{set_here, some_same}
@@ -22,7 +22,7 @@ use Rattle.job.specs.declared.job.JobEvent.TheVariants.{Wrote, Closed}
 use Rattle.job.specs.declared.job.Request.TheVariants.{Step, Close}
 use Rattle.job.specs.Jobs.{phase_of, allowed, moved, further, closed, next_slot, slot_before, slot_last, half_done, in_force}
 use Rattle.turns.specs.Shown.{seen, Seen, Shows, ShowsJob, ShowsOpen, Reached, Takes, counting, ticket_of, next_rule, next_event, as_events, erased_back}
-use Rattle.turns.proofs.Turned.{reached_sound, reached_next, named_turn, step_by, close_by, TakenBy, refused_by, shown_by}
+use Rattle.turns.proofs.Turned.{refused_exit, reached_sound, reached_next, named_turn, step_by, close_by, TakenBy, refused_by, shown_by}
 use Rattle.turns.proofs.Drops.{writing_ok, erasing_ok}
 
 -- The next write.
@@ -266,9 +266,11 @@ module _ {Memory : Type 0} (fixed : Fixed) (stored : Memory → Event → Memory
       let left-same : left ≡ length add.chain - suc add.made = omega arith in
       subst (λ (t : Turn). TakenBy fixed stored state t (counted left) before behind) (sym (step_turn fixed laws state add named is found.2 fewer)) (ap counted left-same, taken.0, taken.1)
 
-  pub step_refused : (before : Seen Memory) (named : Named) (refusal : Refusal) → Err refusal ≡ allowed fixed.board (phase_of before.job) (Step named) before.job
-      → Takes fixed stored (step (ticket_of named)) (counting (Err refusal)) before before
-  step_refused before named refusal not_so state reached shows =
+  pub step_refused : (before : Seen Memory) (named : Named) (r : Result ℕ Refusal) (refusal : Refusal) → IsErrAnd r (λ e. e ≡ refusal) → Err refusal ≡ allowed fixed.board (phase_of before.job) (Step named) before.job
+      → Takes fixed stored (step (ticket_of named)) (counting r) before before
+  step_refused before named r refusal exit not_so =
+      refused_exit fixed stored (step (ticket_of named)) counting before before r refusal exit
+      (λ state reached shows.
       refused_by fixed stored state (step (ticket_of named)) before before refusal shows
       ((step_by fixed state before.job state.job named (λ (one : OpenAdd). cond (written one) (refuse fixed state RunOut) (make_one fixed state one)) shows.job).1 refusal not_so
       (λ add is none.
@@ -277,7 +279,7 @@ module _ {Memory : Type 0} (fixed : Fixed) (stored : Memory → Event → Memory
       let many = shown.chain.as_many in
       let done = shown.made in
       cond-true (written add) (refuse fixed state RunOut) (make_one fixed state add) (eq-eqb add.made (length add.chain) (omega arith))))
-      refl refl refl shows.job
+      refl refl refl shows.job)
 
   -- Complete.
 
@@ -329,17 +331,15 @@ module _ {Memory : Type 0} (fixed : Fixed) (stored : Memory → Event → Memory
         sym (ap (λ (left : List ℕ). all_after stored before.memory (writes on.state.slots on.add.rule left)) empty) ∙ on.memory_is,
       )
 
-  pub complete_refused : (before : Seen Memory) (named : Named) (refusal : Refusal) → Err refusal ≡ allowed fixed.board (phase_of before.job) (Close named) before.job
-      → Takes fixed stored (complete (ticket_of named)) (counting (Err refusal)) before before
-  complete_refused before named refusal not_so state reached shows =
-      refused_by fixed stored state (complete (ticket_of named)) before before refusal shows ((close_by fixed state before.job state.job named (make_all fixed state) shows.job).1 refusal not_so) refl refl refl shows.job
+  -- a complete or a withdraw that leaves by a `?`
+  pub close_refused : (call : Call) (made : Fixed → State → OpenAdd → Turn) (before : Seen Memory) (named : Named) (r : Result ℕ Refusal) (refusal : Refusal) → ((state : State) → turn fixed state call ≡ when_named fixed state (ticket_of named) state.job (made fixed state))
+      → IsErrAnd r (λ e. e ≡ refusal) → Err refusal ≡ allowed fixed.board (phase_of before.job) (Close named) before.job → Takes fixed stored call (counting r) before before
+  close_refused call made before named r refusal turned exit not_so =
+      refused_exit fixed stored call counting before before r refusal exit
+      (λ state reached shows.
+      refused_by fixed stored state call before before refusal shows (turned state ∙ (close_by fixed state before.job state.job named (made fixed state) shows.job).1 refusal not_so) refl refl refl shows.job)
 
   -- Withdraw.
-
-  pub withdraw_refused : (before : Seen Memory) (named : Named) (refusal : Refusal) → Err refusal ≡ allowed fixed.board (phase_of before.job) (Close named) before.job
-      → Takes fixed stored (withdraw (ticket_of named)) (counting (Err refusal)) before before
-  withdraw_refused before named refusal not_so state reached shows =
-      refused_by fixed stored state (withdraw (ticket_of named)) before before refusal shows ((close_by fixed state before.job state.job named (take_back fixed state) shows.job).1 refusal not_so) refl refl refl shows.job
 
   pub withdraw_done : (before : Seen Memory) (slots : List Slot) (trace : ℕ) (memory : Memory) (job : Job) (named : Named) (told : ℕ) → Ok tt ≡ allowed fixed.board (phase_of before.job) (Close named) before.job
       → told ≡ in_force before.job → slots ≡ all_carried_out before.slots (erased_back before.slots before.job) → trace ≡ all_traced fixed.traced before.trace (erased_back before.slots before.job)

@@ -1,16 +1,17 @@
-use Rattle.std.proofs.Common.{◌≡◌, length, ap, ◌∙◌}
+use Rattle.std.proofs.Common.{◌≡◌, length, refl, ap, ◌∙◌}
 use Rattle.rules.specs.declared.rule.Rule.{Rule}
 use Rattle.rules.specs.Slots.{writing, answer, carried_out, after}
 use Rattle.shifting.specs.Slots.{at}
-use Rattle.shifting.specs.Machine.{change_action, with_action, held}
+use Rattle.shifting.specs.Machine.{change_action, rewrite_rule, with_action, held}
 use Rattle.turns.specs.Shown.{doing}
 use Rattle.turns.proofs.Turned.{refused_exit}
-use Rattle.turns.proofs.Drops.{change_unknown, change_done}
+use Rattle.turns.proofs.Drops.{unknown_refused, change_done}
 use Rattle.turns.proofs.altering.change_rule.Goals as goal
 
 pub returns-in_err-slot-clause-takes : goal.returns-in_err-slot-clause-takes
 returns-in_err-slot-clause-takes g c =
-    refused_exit _ _ (change_action c.args.rule c.args.action) doing _ _ _ _ c.from_residual-in_err-slot.ensures.1 (change_unknown _ _ _ _ _ _ c.in_ok-allows.ensures c.args.rule _ c.in_err-slot.ensures c.args.action)
+    refused_exit _ _ (change_action c.args.rule c.args.action) doing _ _ _ _ c.from_residual-in_err-slot.ensures.1
+    (unknown_refused _ _ _ _ _ _ c.in_ok-allows.ensures (change_action c.args.rule c.args.action) (λ fixed state. rewrite_rule fixed state c.args.rule c.args.action) c.args.rule _ (λ state. refl) c.in_err-slot.ensures)
 
 pub returns-clause-takes : goal.returns-clause-takes
 returns-clause-takes g c =

@@ -1,16 +1,14 @@
 use Rattle.std.proofs.Common.{◌<◌, refl, ap, ◌∙◌, arith}
-use Rattle.shifting.specs.Machine.{complete}
+use Rattle.shifting.specs.Machine.{complete, make_all}
 use Rattle.job.specs.declared.job.Job.{Job}
-use Rattle.turns.specs.Shown.{fixed_by, shown, counting, ticket_of}
-use Rattle.turns.proofs.Turned.{refused_exit}
-use Rattle.turns.proofs.Writes.{complete_done, complete_refused, on_start, on_more, close_busy, wrote_further}
+use Rattle.turns.specs.Shown.{fixed_by, shown, ticket_of}
+use Rattle.turns.proofs.Writes.{complete_done, close_refused, on_start, on_more, close_busy, wrote_further}
 use Rattle.turns.proofs.writing.complete_add.Goals as goal
 
 pub returns-in_err-allows-clause-takes : goal.returns-in_err-allows-clause-takes
 returns-in_err-allows-clause-takes g c =
-    let fixed = fixed_by g.D.Kind.Kind.meaning g.D.SlotDevice.traced c.args.number in
-    let board = shown g.D.SlotDevice c.args.device.now c.args.job.now in
-    refused_exit fixed g.D.SlotDevice.stored (complete (ticket_of c.args.named)) counting board board c.from_residual.result _ c.from_residual.ensures.1 (complete_refused fixed g.D.SlotDevice.stored g.met.D.Kind.Kind.lawful board c.args.named _ c.in_err-allows.ensures)
+    close_refused (fixed_by g.D.Kind.Kind.meaning g.D.SlotDevice.traced c.args.number) g.D.SlotDevice.stored g.met.D.Kind.Kind.lawful (complete (ticket_of c.args.named)) make_all
+    (shown g.D.SlotDevice c.args.device.now c.args.job.now) c.args.named c.from_residual.result _ (λ state. refl) c.from_residual.ensures.1 c.in_err-allows.ensures
 
 pub loop-device-init : goal.loop-device-init
 loop-device-init g c = (close_busy c.args.number c.args.job.now c.args.named c.in_ok-allows.ensures, refl, λ named. on_start _ _ named _)

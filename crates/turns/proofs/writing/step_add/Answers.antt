@@ -1,14 +1,11 @@
-use Rattle.shifting.specs.Machine.{step}
-use Rattle.turns.specs.Shown.{fixed_by, shown, counting, ticket_of}
-use Rattle.turns.proofs.Turned.{refused_exit}
+use Rattle.turns.specs.Shown.{fixed_by, shown}
 use Rattle.turns.proofs.Writes.{step_done, step_refused}
 use Rattle.turns.proofs.writing.step_add.Goals as goal
 
 pub returns-in_err-allows-clause-takes : goal.returns-in_err-allows-clause-takes
 returns-in_err-allows-clause-takes g c =
-    let fixed = fixed_by g.D.Kind.Kind.meaning g.D.SlotDevice.traced c.args.number in
-    let board = shown g.D.SlotDevice c.args.device.now c.args.job.now in
-    refused_exit fixed g.D.SlotDevice.stored (step (ticket_of c.args.named)) counting board board c.from_residual.result _ c.from_residual.ensures.1 (step_refused fixed g.D.SlotDevice.stored g.met.D.Kind.Kind.lawful board c.args.named _ c.in_err-allows.ensures)
+    step_refused (fixed_by g.D.Kind.Kind.meaning g.D.SlotDevice.traced c.args.number) g.D.SlotDevice.stored g.met.D.Kind.Kind.lawful
+    (shown g.D.SlotDevice c.args.device.now c.args.job.now) c.args.named c.from_residual.result _ c.from_residual.ensures.1 c.in_err-allows.ensures
 
 pub returns-clause-takes : goal.returns-clause-takes
 returns-clause-takes g c =

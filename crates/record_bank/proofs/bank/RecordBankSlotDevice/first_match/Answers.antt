@@ -1,20 +1,13 @@
-use Rattle.std.proofs.Common.{◌≡◌, true, false, get_or, None, rules, arith}
-use Rattle.std.proofs.lemmas.Iterator.{first_from_Range}
+use Rattle.std.proofs.Common.{None, rules, arith}
 use Rattle.rules.specs.Slots.{slot_matches}
-use Rattle.rules.proofs.Searches.{first_found}
+use Rattle.rules.proofs.Searches.{first_in_range}
 use Rattle.kinds.specs.DialRules.{dial_meaning}
 use Rattle.record_bank.specs.Records.{bank_slots}
 use Rattle.record_bank.proofs.bank.RecordBankSlotDevice.first_match.Goals as goal
 
 pub returns : goal.returns
-returns c =
-    let passes = slot_matches dial_meaning c.args.subject in
-    let slots = bank_slots c.args.self.now.records.now in
-    record {
-      answer =
-          first_found passes None slots _ c.find.result
-          (rw c.slot_count.ensures at
-          (first_from_Range _ _ _ _ (λ slot. passes (get_or slots slot None) ≡ true) (λ slot. passes (get_or slots slot None) ≡ false) c.find.ensures.ran
-          (λ slot f called. search rules) (λ slot f called. search rules)))
-          (omega arith);
-    }
+returns c = record {
+  answer =
+      first_in_range (slot_matches dial_meaning c.args.subject) None (bank_slots c.args.self.now.records.now) _ _ _ c.find.result c.find.ensures.ran
+      (λ slot f called. search rules) (λ slot f called. search rules) c.slot_count.ensures (omega arith);
+}

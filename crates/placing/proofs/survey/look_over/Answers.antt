@@ -1,4 +1,4 @@
-use Rattle.std.proofs.Common.{◌-◌, Some, None, refl, arith}
+use Rattle.std.proofs.Common.{◌-◌, Some, None, arith}
 use Rattle.std.specs.declared.cmp.Ordering.TheVariants.{Less, Equal, Greater}
 use Rattle.placing.proofs.Surveys.{surveyed_more, surveyed_whole}
 use Rattle.placing.proofs.survey.look_over.Goals as goal

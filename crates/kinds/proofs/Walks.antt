@@ -1,12 +1,12 @@
 -- The tests of a dial word, walked from place to place by iterators. Assumes nothing.
-use Rattle.std.proofs.Common.{◌≡◌, ℕ, suc, ◌+◌, Bool, true, false, cond, leb, ltb, eqb, not, ◌&&◌, ◌||◌, List, [], ◌∷◌, length, take, drop, refl, ap, ◌∙◌, sym, subst, Option, Some, None, arith}
-use Rattle.std.specs.List.{list_all, prefix_len, zip, FoldsTo}
-use Rattle.std.specs.Iterator.{Yields, YieldsFirst, ChecksAll}
+use Rattle.std.proofs.Common.{◌≡◌, ℕ, suc, ◌+◌, Bor, Bool, true, false, cond, leb, ltb, eqb, not, ◌&&◌, ◌||◌, ◌==◌, List, [], ◌∷◌, length, refl, ap, ◌∙◌, sym, subst, Option, Some, None, IfSome, option_map, arith}
+use Rattle.std.specs.List.{find, zip, FoldsTo}
+use Rattle.std.specs.Iterator.{Yields, YieldsFirst, ChecksAll, FindsItem}
 use Rattle.std.specs.Option.{MatchOption}
-use Rattle.std.specs.Fn.{Called}
-use Rattle.std.proofs.lemmas.Bool.{cond-true, cond-false}
+use Rattle.std.specs.Fn.{Called, CalledAt}
+use Rattle.std.proofs.lemmas.Bool.{cond-true, cond-false, eq-eqb, ne_eqb}
 use denote.Param.Members.{Mut}
-use Rattle.kinds.specs.DialRules.{only_ends, pattern_well_formed, subject_well_formed, takes, pattern_takes, hash, rest}
+use Rattle.kinds.specs.DialRules.{only_ends, pattern_well_formed, subject_well_formed, takes, pattern_takes, hash, rest, end}
 
 -- what `all` says of a pattern, where its test computes whether a place comes before the rest and the end
 module _ {F : Type 0} {g : Mut F (ℕ × Unit {0}) Bool} {f : F} (told : (code : ℕ) (answer : Bool) (q : F) → Called g f (code, tt) answer q → (q ≡ f) × (answer ≡ ltb code rest)) where
@@ -33,33 +33,68 @@ module _ {F : Type 0} {g : Mut F (ℕ × Unit {0}) Bool} {f : F} (told : (code :
     pub ended_pattern : all_plain ≡ false → pattern_well_formed codes ≡ only_ends others
     ended_pattern ended = walked all_plain ran.0 codes ran.3.0 others ran.1 ran.2 ran.3.1 ran.3.2 ran.4 ran.5 ∙ ap (λ plain. plain || only_ends others) ended
 
--- from the first place on that is no symbol, only ends
-pub subject_from_first_end : (codes : List ℕ) → only_ends (drop (prefix_len (λ code. leb code hash) codes) codes) ≡ subject_well_formed codes
-subject_from_first_end [] = refl
-subject_from_first_end (code ∷ codes) =
-    let symbols = prefix_len (λ c. leb c hash) codes in
-    let more : 1 + symbols ≡ suc symbols = omega arith in
-    elim (leb code hash) as (λ symbol. only_ends (drop (cond symbol (1 + symbols) 0) (code ∷ codes)) ≡ cond symbol (subject_well_formed codes) (only_ends (code ∷ codes))) [
-      | true ↦ ap (λ n. only_ends (drop n (code ∷ codes))) more ∙ subject_from_first_end codes
-      | false ↦ refl
-    ]
+-- what is left of a subject from its first place on that is no symbol
+abbrev pub ended : Option ℕ → List ℕ → Bool
+ended None others = true
+ended (Some code) others = (code == end) && only_ends others
 
--- whether each pair has a place that takes its symbol
-abbrev pub all_take : List (ℕ × ℕ) → Bool
-all_take = list_all (λ pair. takes pair.0 pair.1)
+-- what `find` says of a subject, where its test computes whether a place is no symbol
+module _ {F : Type 0} {g : Mut F (Bor ℕ × Unit {0}) Bool} {f : F} (told : (code : ℕ) (answer : Bool) (q : F) → CalledAt g f code answer q → (q ≡ f) × (answer ≡ ltb hash code)) where
+  sought : (symbols codes at others : List ℕ) (first : Option ℕ) (q : F)
+      → Yields (YieldsFirst (λ codes. codes)) codes symbols at → YieldsFirst (λ codes. codes) at first others → FoldsTo (λ p code q. CalledAt g p code false q) f symbols q
+      → IfSome first (λ code. (h : F) × CalledAt g q code true h)
+      → subject_well_formed codes ≡ ended first others
+  sought [] codes at others None q same none kept found = ap subject_well_formed (same ∙ none.0)
+  sought [] codes at others (Some code) q same next kept found =
+      let answer = (told code true found.0 (subst (λ p. CalledAt g p code true found.0) (sym kept) found.1)).1 in
+      let none : leb code hash ≡ false = grind (arith, answer) in
+      ap subject_well_formed (same ∙ next) ∙ cond-false (leb code hash) (subject_well_formed others) (only_ends (code ∷ others)) none
+  sought (code ∷ symbols) codes at others first q yields next folds found =
+      let answer = told code false folds.0 folds.1 in
+      let symbol : leb code hash ≡ true = grind (arith, answer) in
+      let after = subst (λ p. FoldsTo (λ p code q. CalledAt g p code false q) p symbols q) answer.0 folds.2 in
+      ap subject_well_formed yields.1 ∙ cond-true (leb code hash) (subject_well_formed yields.0) (only_ends (code ∷ yields.0)) symbol
+      ∙ sought symbols yields.0 at others first q yields.2 next after found
 
-abbrev pub before_rest : List (ℕ × ℕ) → List (ℕ × ℕ)
-before_rest pairs = take (prefix_len (λ pair. not (eqb pair.0 rest)) pairs) pairs
+  module _ (codes others : List ℕ) (first : Option ℕ) (ran : FindsItem (YieldsFirst (λ codes. codes)) g codes f first others) where
+    sought_first : subject_well_formed codes ≡ ended first others
+    sought_first = sought ran.0 codes ran.2.0 others first ran.1 ran.2.1 ran.2.2 ran.3 ran.4
 
-pub takes_before_rest : (codes symbols : List ℕ) → length codes ≡ length symbols → all_take (before_rest (zip codes symbols)) ≡ pattern_takes codes symbols
-takes_before_rest [] [] same = refl
-takes_before_rest [] (symbol ∷ symbols) same = absurd (omega arith)
-takes_before_rest (code ∷ codes) [] same = absurd (omega arith)
-takes_before_rest (code ∷ codes) (symbol ∷ symbols) same =
-    let pairs = zip codes symbols in
-    let before = prefix_len (λ (pair : ℕ × ℕ). not (eqb pair.0 rest)) pairs in
-    let more : 1 + before ≡ suc before = omega arith in
-    elim (eqb code rest) as (λ ends. all_take (take (cond (not ends) (1 + before) 0) ((code, symbol) ∷ pairs)) ≡ (ends || (takes code symbol && pattern_takes codes symbols))) [
-      | true ↦ refl
-      | false ↦ ap (λ n. all_take (take n ((code, symbol) ∷ pairs))) more ∙ ap (λ others. takes code symbol && others) (takes_before_rest codes symbols (omega arith))
-    ]
+    -- a subject with no end
+    pub plain_subject : first ≡ None → true ≡ subject_well_formed codes
+    plain_subject none = sym (sought_first ∙ ap (λ first. ended first others) none)
+
+    -- what follows the first end
+    pub ended_subject : (code : ℕ) → first ≡ Some code → code ≡ end → subject_well_formed codes ≡ only_ends others
+    ended_subject code is last = sought_first ∙ ap (λ first. ended first others) is ∙ ap (λ last. last && only_ends others) (eq-eqb code end last)
+
+    -- another code has no place in a subject
+    pub strange_subject : (code : ℕ) → first ≡ Some code → (code ≡ end → ⊥) → subject_well_formed codes ≡ false
+    strange_subject code is other = sought_first ∙ ap (λ first. ended first others) is ∙ ap (λ last. last && only_ends others) (ne_eqb code end other)
+
+-- the first pair whose place is the rest or does not take its symbol
+abbrev pub stops : ℕ × ℕ → Bool
+stops pair = (pair.0 == rest) || not (takes pair.0 pair.1)
+
+abbrev pub at_rest : Option (ℕ × ℕ) → Bool
+at_rest None = true
+at_rest (Some pair) = pair.0 == rest
+
+-- what a closure says of the pair that is found, or true
+pub told_rest : (found : Option (ℕ × ℕ)) (answer : Bool) → MatchOption found (answer ≡ true) (λ pair. answer ≡ eqb pair.0 rest) → answer ≡ at_rest (option_map (λ pair. (pair.0, pair.1)) found)
+told_rest None answer told = told
+told_rest (Some pair) answer told = told
+
+pub takes_to_rest : (codes symbols : List ℕ) → length codes ≡ length symbols → at_rest (find stops (zip codes symbols)) ≡ pattern_takes codes symbols
+takes_to_rest [] [] same = refl
+takes_to_rest [] (symbol ∷ symbols) same = absurd (omega arith)
+takes_to_rest (code ∷ codes) [] same = absurd (omega arith)
+takes_to_rest (code ∷ codes) (symbol ∷ symbols) same =
+    let further = takes_to_rest codes symbols (omega arith) in
+    elim (eqb code rest) as (λ ends. (eqb code rest ≡ ends) → at_rest (cond (ends || not (takes code symbol)) (Some (code, symbol)) (find stops (zip codes symbols))) ≡ (ends || (takes code symbol && pattern_takes codes symbols))) [
+      | true ↦ λ ends. ends
+      | false ↦ λ goes. elim (takes code symbol) as (λ taken. at_rest (cond (not taken) (Some (code, symbol)) (find stops (zip codes symbols))) ≡ (taken && pattern_takes codes symbols)) [
+        | true ↦ further
+        | false ↦ goes
+      ]
+    ] refl

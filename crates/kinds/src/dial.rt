@@ -20,9 +20,11 @@ fn pattern_well_formed(mut places: Places) -> bool
 fn subject_well_formed(subject: u64) -> bool
     ensures { result ≡ subject_well_formed (places 16 subject) }
 {
-    Places::of(subject)
-        .skip_while(|symbol| *symbol <= HASH)
-        .all(|symbol| symbol == END)
+    let mut symbols = Places::of(subject);
+    match symbols.find(|symbol| *symbol > HASH) {
+        Some(first) => first == END && symbols.all(|symbol| symbol == END),
+        None => true,
+    }
 }
 
 // Whether a place, other than the rest, takes a symbol.
@@ -42,8 +44,8 @@ fn pattern_takes(pattern: u64, subject: u64) -> bool
 {
     Places::of(pattern)
         .zip(Places::of(subject))
-        .take_while(|(code, _)| *code != REST)
-        .all(|(code, symbol)| takes(code, symbol))
+        .find(|(code, symbol)| *code == REST || !takes(*code, *symbol))
+        .is_none_or(|(code, _)| code == REST)
 }
 
 fn wildcard(code: u64) -> bool
@@ -89,8 +91,9 @@ impl Kind for Dial {
     }
 
     fn matches(words: Words, subject: u64) -> bool {
-        // Few rules take a subject, so this test comes first.
-        pattern_takes(words.a, subject)
+        // Few rules take a subject, so the test of the places comes before those of the form.
+        words.b == 0
+            && pattern_takes(words.a, subject)
             && Self::well_formed(words)
             && Self::well_formed_subject(subject)
     }

@@ -1,5 +1,5 @@
 -- A test whose answers are known: the first slot that passes is the first of a scan. Assumes nothing.
-use Rattle.std.proofs.Common.{◌≡◌, ℕ, zero, suc, ⊎_elim, refl, ◌-◌, ◌<◌, ◌≤◌, Bool, true, ltb, is_some, List, Some, None, Option, MatchOption, subst, sym, arith}
+use Rattle.std.proofs.Common.{◌≡◌, ℕ, zero, suc, ⊎_elim, refl, ◌-◌, ◌<◌, ◌≤◌, Bool, true, ltb, is_some, List, Some, None, Option, MatchOption, unwrap_or, min, subst, sym, arith}
 use Rattle.std.proofs.lemmas.Bool.{cases_lt, both_ways}
 use Rattle.rules.specs.Slots.{place_within}
 use Rattle.shifting.specs.Chains.{scan, past}
@@ -43,6 +43,10 @@ first_found Answers slots start low end (Some slot) first is =
 -- whether a place is found
 pub some_place : (count place : ℕ) → is_some (place_within count place) ≡ ltb place count
 some_place count place = grind arith
+
+-- a place, or the count where it is past all
+pub place_or : (count place : ℕ) → unwrap_or (place_within count place) count ≡ min place count
+place_or count place = grind arith
 
 pub some_is : (count place found : ℕ) → Some found ≡ place_within count place → (found ≡ place) × (place < count)
 some_is count place found is = grind arith

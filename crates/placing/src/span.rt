@@ -4,9 +4,8 @@ ghost use Rattle.shifting.specs.Slots.{low, high, tied};
 ghost use Rattle.placing.specs.Placing.{full_from};
 
 use crate::reading::usable_slots;
-use crate::scanning::first_passing;
-use crate::slot_tests::is_empty;
-use crate::survey::look_over;
+use crate::scanning::{first_passing, past_last_passing};
+use crate::slot_tests::{is_above, is_below, is_empty, is_level};
 use rules::{Rule, SlotDevice};
 
 // The last slot that a board uses of so many, or 0.
@@ -16,18 +15,27 @@ pub(crate) fn last_of(count: u16) -> u16
     count.saturating_sub(1)
 }
 
-// The slots between which a new rule may go, both included.
+// The slots between which a new rule may go, both included. Each walk ends at the rule that it looks for.
 pub fn span<D: SlotDevice>(device: &D, new: Rule) -> (u16, u16)
     ensures low { result.0 ≡ low D.Kind.Kind.meaning (D.SlotDevice.slots device.now) new }
     ensures high { result.1 ≡ high D.Kind.Kind.meaning (D.SlotDevice.slots device.now) new }
 {
-    look_over(device, new).span
+    let count = usable_slots(device);
+    let low = past_last_passing(device, count, |held| is_above::<D::Kind>(new, held));
+    let below = first_passing(device, 0, count, |held| is_below::<D::Kind>(new, held));
+    (low, below.unwrap_or(count).min(last_of(count)))
 }
 
 pub fn is_tied<D: SlotDevice>(device: &D, new: Rule) -> bool
     ensures { result ≡ tied D.Kind.Kind.meaning (D.SlotDevice.slots device.now) new }
 {
-    look_over(device, new).tied
+    first_passing(
+        device,
+        0,
+        usable_slots(device),
+        |held| is_level::<D::Kind>(new, held),
+    )
+    .is_some()
 }
 
 // Whether a span is crossed: it begins past the slot after its last.

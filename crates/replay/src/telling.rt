@@ -5,7 +5,7 @@ use anyhow::anyhow;
 
 #[derive(Clone, Copy)]
 pub(crate) struct Replayed {
-    pub(crate) orders: usize,
+    pub(crate) orders: u32,
     pub(crate) same: bool,
 }
 
@@ -13,7 +13,7 @@ pub(crate) struct Replayed {
 pub(crate) struct Tally {
     files: u32,
     runs: u32,
-    orders: usize,
+    orders: u32,
     differences: u32,
 }
 
@@ -53,8 +53,11 @@ impl Tally {
 }
 
 // A damaged order has a line of its own that is no order's, and so has a file that is too long.
-pub(crate) fn orders_told(text: &str) -> usize {
-    text.lines()
+// The count stops at the largest number that it can be, as the sums of it do.
+pub(crate) fn orders_told(text: &str) -> u32 {
+    let orders = text
+        .lines()
         .filter(|line| *line != "long" && !line.starts_with("?"))
-        .count()
+        .count();
+    u32::try_from(orders).unwrap_or(u32::MAX)
 }

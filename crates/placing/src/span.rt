@@ -15,7 +15,8 @@ pub(crate) fn last_of(count: u16) -> u16
     count.saturating_sub(1)
 }
 
-// The slots between which a new rule may go, both included. Each walk ends at the rule that it looks for.
+// The slots between which a new rule may go, both included.
+// Kept: the one walk of `look_over` in place of these and of that of `is_tied` would read every slot, where each of them ends at the rule that it looks for.
 pub fn span<D: SlotDevice>(device: &D, new: Rule) -> (u16, u16)
     ensures low { result.0 ≡ low D.Kind.Kind.meaning (D.SlotDevice.slots device.now) new }
     ensures high { result.1 ≡ high D.Kind.Kind.meaning (D.SlotDevice.slots device.now) new }

@@ -22,21 +22,21 @@ pub fn has_number(number: u16, held: Option<Rule>) -> bool
 }
 
 // Whether the rule in the slot meets a new one and has higher priority.
-pub(crate) fn is_above<K: Kind>(new: Rule, held: Option<Rule>) -> bool
+pub(crate) fn stands_above<K: Kind>(new: Rule, held: Option<Rule>) -> bool
     ensures { result ≡ above K.Kind.meaning new held }
 {
     matches!(standing_of::<K>(new, held), Some(Ordering::Greater))
 }
 
 // Whether it meets the new one and has lower priority.
-pub(crate) fn is_below<K: Kind>(new: Rule, held: Option<Rule>) -> bool
+pub(crate) fn stands_below<K: Kind>(new: Rule, held: Option<Rule>) -> bool
     ensures { result ≡ below K.Kind.meaning new held }
 {
     matches!(standing_of::<K>(new, held), Some(Ordering::Less))
 }
 
 // Whether it meets the new one and has the same priority.
-pub(crate) fn is_level<K: Kind>(new: Rule, held: Option<Rule>) -> bool
+pub(crate) fn stands_level<K: Kind>(new: Rule, held: Option<Rule>) -> bool
     ensures { result ≡ level K.Kind.meaning new held }
 {
     matches!(standing_of::<K>(new, held), Some(Ordering::Equal))

@@ -5,7 +5,7 @@ ghost use Rattle.placing.specs.Placing.{full_from};
 
 use crate::reading::usable_slots;
 use crate::scanning::{first_passing, past_last_passing};
-use crate::slot_tests::{is_above, is_below, is_empty, is_level};
+use crate::slot_tests::{is_empty, stands_above, stands_below, stands_level};
 use rules::{Rule, SlotDevice};
 
 // The last slot that a board uses of so many, or 0.
@@ -16,14 +16,14 @@ pub(crate) fn last_of(count: u16) -> u16
 }
 
 // The slots between which a new rule may go, both included.
-// Kept: the one walk of `look_over` in place of these and of that of `is_tied` would read every slot, where each of them ends at the rule that it looks for.
+// Kept: `look_over` finds low, high and a tie in one walk, but reads every slot; the walks here and in `is_tied` end at the rule that they look for.
 pub fn span<D: SlotDevice>(device: &D, new: Rule) -> (u16, u16)
     ensures low { result.0 ≡ low D.Kind.Kind.meaning (D.SlotDevice.slots device.now) new }
     ensures high { result.1 ≡ high D.Kind.Kind.meaning (D.SlotDevice.slots device.now) new }
 {
     let count = usable_slots(device);
-    let low = past_last_passing(device, count, |held| is_above::<D::Kind>(new, held));
-    let below = first_passing(device, 0, count, |held| is_below::<D::Kind>(new, held));
+    let low = past_last_passing(device, count, |held| stands_above::<D::Kind>(new, held));
+    let below = first_passing(device, 0, count, |held| stands_below::<D::Kind>(new, held));
     (low, below.unwrap_or(count).min(last_of(count)))
 }
 
@@ -34,7 +34,7 @@ pub fn is_tied<D: SlotDevice>(device: &D, new: Rule) -> bool
         device,
         0,
         usable_slots(device),
-        |held| is_level::<D::Kind>(new, held),
+        |held| stands_level::<D::Kind>(new, held),
     )
     .is_some()
 }
